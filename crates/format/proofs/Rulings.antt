@@ -1,0 +1,29 @@
+-- Laws of rulings: a chain of checks is fine exactly when each of them is.
+-- Assumes nothing.
+use Prim.Native.Nat.{ℕ}
+use native.Mathlib.Omega.{arith}
+use mathlib.Core.Path.{_≡_, refl}
+use mathlib.Core.Bool.{Bool, true, false}
+use Rattle.format.specs.declared.Fault.{Fault}
+use Rattle.format.specs.declared.Refusal.{Refusal}
+use Rattle.format.specs.declared.Ruling.{Ruling}
+use Rattle.format.specs.declared.Ruling.the-variants.{Fine, Stop}
+use Rattle.format.specs.Refusal.{need, _then_}
+
+pub stop-fine : {A : Type 0} {x : Refusal} → Stop x ≡ Fine → A
+stop-fine e = absurd (let z : _≡_ {A = ℕ} 0 1 = cc in omega arith)
+
+pub then-fine : (r : Ruling) → r then Fine ≡ r
+then-fine Fine = refl
+then-fine (Stop x) = refl
+
+pub fine-of-then : (a b : Ruling) → a then b ≡ Fine → (a ≡ Fine) × (b ≡ Fine)
+fine-of-then Fine b e = (refl, e)
+fine-of-then (Stop x) b e = stop-fine e
+
+pub then-of-fine : (a b : Ruling) → a ≡ Fine → b ≡ Fine → a then b ≡ Fine
+then-of-fine a b e f = rw (e, f)
+
+pub true-of-need : (t : Bool) (f : Fault) (p : ℕ) → need t f p ≡ Fine → t ≡ true
+true-of-need true f p e = refl
+true-of-need false f p e = stop-fine e

@@ -1,0 +1,15 @@
+-- The limits of document 01, "The list", in bytes.
+-- Assumes nothing.
+use Prim.Native.Nat.{ℕ}
+
+-- the longest version
+abbrev pub versionMost : ℕ
+versionMost = 16777216
+
+-- the longest store
+abbrev pub storeMost : ℕ
+storeMost = 268435456
+
+-- the longest list: 4,096 records of 12 bytes
+abbrev pub listMost : ℕ
+listMost = 49152

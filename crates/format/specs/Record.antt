@@ -1,0 +1,77 @@
+-- The 12-byte record of document 01, "The list": its bytes read and written, what is well formed by itself, and the records of a list.
+--
+--   OFFSET  SIZE  FIELD
+--   0       1     kind: 0 new, 1 match
+--   1       3     zero
+--   4       4     size: bytes covered, 1 or more, lowest byte first
+--   8       4     address: where a match begins in the store; zero in a new record
+-- Assumes nothing.
+use Prim.Native.Nat.{ℕ, zero, suc, _+_, _*_, _/_, _%_}
+use mathlib.Core.Bool.{Bool, true, false, not, _&&_, _||_, cond}
+use mathlib.Core.List.{List, [], _∷_, _++_}
+use lib.Dec.{eqb, leb}
+use lib.ListN.{length, getD}
+use Rattle.format.specs.declared.Row.{Row}
+use Rattle.format.specs.declared.Record.{Record}
+use Rattle.format.specs.declared.Record.the-variants.{New, Match}
+use Rattle.format.specs.Limits.{listMost}
+
+-- the number in the 4 bytes from `at` on, lowest byte first
+abbrev pub wordAt : List ℕ → ℕ → ℕ
+wordAt l at = getD l at 0 + 256 * getD l (at + 1) 0 + 65536 * getD l (at + 2) 0 + 16777216 * getD l (at + 3) 0
+
+-- row i: the fields of the 12 bytes from 12 * i on, as they stand
+abbrev pub rowAt : List ℕ → ℕ → Row
+rowAt l i =
+    record {
+      kind = getD l (12 * i) 0;
+      second = getD l (12 * i + 1) 0;
+      third = getD l (12 * i + 2) 0;
+      fourth = getD l (12 * i + 3) 0;
+      size = wordAt l (12 * i + 4);
+      address = wordAt l (12 * i + 8);
+    }
+
+-- f i, f (i + 1), .. : m values
+abbrev pub from : {A : Type 0} → (ℕ → A) → ℕ → ℕ → List A
+from f i zero = []
+from f i (suc m) = f i ∷ from f (i + 1) m
+
+abbrev pub rowsOf : List ℕ → List Row
+rowsOf l = from (rowAt l) 0 (length l / 12)
+
+abbrev pub isNew : Row → Bool
+isNew r = eqb (r .kind) 0
+
+-- the record that a row stands for (a new record is ADD in VCDIFF, a match COPY)
+abbrev pub recordOf : Row → Record
+recordOf r = cond (isNew r) (New (r .size)) (Match (r .size) (r .address))
+
+abbrev pub records : List Row → List Record
+records [] = []
+records (r ∷ rs) = recordOf r ∷ records rs
+
+abbrev pub recordsOf : List ℕ → List Record
+recordsOf l = records (rowsOf l)
+
+-- number 4's opposite: kind 0 or 1, bytes 1 to 3 zero, a size, and no address in a new record
+abbrev pub wellFormed : Row → Bool
+wellFormed r = leb (r .kind) 1 && eqb (r .second) 0 && eqb (r .third) 0 && eqb (r .fourth) 0 && leb 1 (r .size) && (not (isNew r) || eqb (r .address) 0)
+
+-- number 3's opposite
+abbrev pub listFits : List ℕ → Bool
+listFits l = leb (length l) listMost && eqb (length l % 12) 0
+
+-- 4 bytes, lowest first
+abbrev pub word : ℕ → List ℕ
+word x = x % 256 ∷ x / 256 % 256 ∷ x / 65536 % 256 ∷ x / 16777216 ∷ []
+
+-- the 12 bytes of a record
+abbrev pub bytesOf : Record → List ℕ
+bytesOf (New s) = 0 ∷ 0 ∷ 0 ∷ 0 ∷ word s ++ word 0
+bytesOf (Match s a) = 1 ∷ 0 ∷ 0 ∷ 0 ∷ word s ++ word a
+
+-- the bytes of a list
+abbrev pub encode : List Record → List ℕ
+encode [] = []
+encode (r ∷ l) = bytesOf r ++ encode l

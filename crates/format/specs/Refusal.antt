@@ -1,0 +1,50 @@
+-- Refusals: document 01's number of each fault, and checks that are made one after the other.
+-- Assumes nothing.
+use Prim.Native.Nat.{ℕ}
+use mathlib.Core.Bool.{Bool, true, false}
+use Rattle.format.specs.declared.Fault.{Fault}
+use Rattle.format.specs.declared.Fault.the-variants.{Price, TooLong, ListLength, Malformed, Adjacent, Sizes, OutsideStore, Mismatch, AreaTooShort, BlockLength, NoSuchRecord}
+use Rattle.format.specs.declared.Refusal.{Refusal}
+use Rattle.format.specs.declared.Ruling.{Ruling}
+use Rattle.format.specs.declared.Ruling.the-variants.{Fine, Stop}
+use Rattle.format.specs.declared.Figures.{Figures}
+use Rattle.format.specs.declared.Answer.{Answer}
+use Rattle.format.specs.declared.Answer.the-variants.{Accepted, Refused}
+
+-- "Numbers by their cause"
+abbrev pub number : Fault → ℕ
+number Price = 1
+number TooLong = 2
+number ListLength = 3
+number Malformed = 4
+number Adjacent = 5
+number Sizes = 6
+number OutsideStore = 7
+number Mismatch = 8
+number AreaTooShort = 9
+number BlockLength = 10
+number NoSuchRecord = 11
+
+abbrev pub refuse : Fault → ℕ → Refusal
+refuse f p = record { fault = f; place = p }
+
+-- a fault at a place, unless the test holds
+abbrev pub need : Bool → Fault → ℕ → Ruling
+need true f p = Fine
+need false f p = Stop (refuse f p)
+
+-- "Order": the first refusal stands
+infixr 20 _then_
+abbrev pub _then_ : Ruling → Ruling → Ruling
+_then_ Fine r = r
+_then_ (Stop x) r = Stop x
+
+-- the figures of a call whose checks are fine, or its refusal
+abbrev pub answer : Ruling → Figures → Answer
+answer Fine x = Accepted x
+answer (Stop r) x = Refused r
+
+-- what a call writes over an area: nothing where it is refused
+abbrev pub written : {A : Type 0} → Ruling → A → A → A
+written Fine x y = x
+written (Stop r) x y = y

@@ -1,0 +1,180 @@
+// The list of a version: 12-byte records, read from bytes; the faults a call can find, and the answer it gives.
+//
+// In order: faults and answers; the record's bytes; what is well formed by itself.
+// Not here: what a record must be beside its neighbours, the version and the store (crate `walk`).
+ghost use mathlib.Core.Path.{_≡_};
+ghost use mathlib.Core.Bool.{Bool};
+ghost use Prim.Native.Nat.{_+_, _*_, _≤_, _<_};
+ghost use lib.ListN.{length};
+ghost use Rattle.format.specs.Refusal.{number, refuse};
+ghost use Rattle.format.specs.Record.{wordAt, rowAt, recordOf, wellFormed, listFits};
+
+// What is at fault, in the order of the numbers 1 to 11 (`number`).
+pub enum Fault {
+    Price,
+    TooLong,
+    ListLength,
+    Malformed,
+    Adjacent,
+    Sizes,
+    OutsideStore,
+    Mismatch,
+    AreaTooShort,
+    BlockLength,
+    NoSuchRecord,
+}
+
+// A fault, and the record concerned, counted from 0; 0 where no record is concerned.
+pub struct Refusal {
+    pub fault: Fault,
+    pub place: u32,
+}
+
+// What a check, or several in their order, come to.
+pub enum Ruling {
+    Fine,
+    Stop(Refusal),
+}
+
+// What an accepted call answers; what it does not give is 0.
+pub struct Figures {
+    pub cost: u64,
+    pub entries: u32,
+    pub stored: u32,
+    pub looks: u32,
+    pub whole: u32,
+}
+
+pub enum Answer {
+    Accepted(Figures),
+    Refused(Refusal),
+}
+
+// The fields of a record, as they stand.
+pub struct Row {
+    pub kind: u8,
+    pub second: u8,
+    pub third: u8,
+    pub fourth: u8,
+    pub size: u32,
+    pub address: u32,
+}
+
+// A record: a new one of a size, or a match of a size at an address of the store.
+pub enum Record {
+    New(u32),
+    Match(u32, u32),
+}
+
+// The number of a fault.
+pub fn number_of(fault: Fault) -> u32
+    ensures { λ r. ⌜ r ≡ number fault ⌝ }
+{
+    match fault {
+        Fault::Price => 1,
+        Fault::TooLong => 2,
+        Fault::ListLength => 3,
+        Fault::Malformed => 4,
+        Fault::Adjacent => 5,
+        Fault::Sizes => 6,
+        Fault::OutsideStore => 7,
+        Fault::Mismatch => 8,
+        Fault::AreaTooShort => 9,
+        Fault::BlockLength => 10,
+        Fault::NoSuchRecord => 11,
+    }
+}
+
+// The answer of a call that is refused where no record is concerned.
+pub fn refused(fault: Fault) -> Answer
+    ensures { λ r. ⌜ r ≡ Answer.Refused (refuse fault 0) ⌝ }
+{
+    Answer::Refused(Refusal { fault, place: 0 })
+}
+
+// A byte as a wider number.
+fn wide(b: u8) -> u32
+    ensures { λ r. ⌜ (r ≡ b) × (r < 256) ⌝ }
+{
+    b as u32
+}
+
+// The number in the 4 bytes from `at` on, lowest byte first.
+fn word_at(list: &[u8], at: usize) -> u32
+    requires { ⌜ at + 4 ≤ length (now list) ⌝ }
+    ensures { λ r. ⌜ r ≡ wordAt (now (list .entry)) at ⌝ }
+{
+    let a = wide(list[at]);
+    let b = wide(list[at + 1]);
+    let c = wide(list[at + 2]);
+    let d = wide(list[at + 3]);
+    a + 256 * b + 65536 * c + 16777216 * d
+}
+
+// Row i of a list.
+pub fn row_at(list: &[u8], i: usize) -> Row
+    requires { ⌜ 12 * i + 12 ≤ length (now list) ⌝ }
+    ensures { λ r. ⌜ r ≡ rowAt (now (list .entry)) i ⌝ }
+{
+    let at = 12 * i;
+    Row {
+        kind: list[at],
+        second: list[at + 1],
+        third: list[at + 2],
+        fourth: list[at + 3],
+        size: word_at(list, at + 4),
+        address: word_at(list, at + 8),
+    }
+}
+
+// The record that a row stands for.
+pub fn record_of(row: Row) -> Record
+    ensures { λ r. ⌜ r ≡ recordOf row ⌝ }
+{
+    if row.kind == 0 {
+        return Record::New(row.size);
+    }
+    Record::Match(row.size, row.address)
+}
+
+// Whether a row is a record: check 4.
+pub fn well_formed(row: Row) -> bool
+    ensures { λ r. ⌜ r ≡ wellFormed row ⌝ }
+{
+    if 1 < row.kind {
+        return false;
+    }
+    if row.second != 0 {
+        return false;
+    }
+    if row.third != 0 {
+        return false;
+    }
+    if row.fourth != 0 {
+        return false;
+    }
+    if row.size < 1 {
+        return false;
+    }
+    if row.kind == 0 {
+        return row.address == 0;
+    }
+    true
+}
+
+// Whether so many bytes can be a list: check 3.
+pub fn list_fits(list: &[u8]) -> bool
+    ensures { λ r. ⌜ r ≡ listFits (now (list .entry)) ⌝ }
+{
+    if 49152 < list.len() {
+        return false;
+    }
+    list.len() % 12 == 0
+}
+
+// A 32-bit number as an index.
+pub fn index(x: u32) -> usize
+    ensures { λ r. ⌜ (r ≡ x) × (r < 4294967296) ⌝ }
+{
+    x as usize
+}

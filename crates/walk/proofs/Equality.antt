@@ -1,0 +1,33 @@
+-- `sameBytes` decides whether two lists of bytes are equal.
+-- Assumes nothing.
+use Prim.Native.Nat.{ℕ}
+use native.Mathlib.Omega.{arith}
+use mathlib.Core.Path.{_≡_, refl, sym, _∙_, ap}
+use mathlib.Core.Bool.{Bool, true, false, _&&_}
+use mathlib.Core.List.{List, [], _∷_}
+use lib.Dec.{eqb}
+use borrow.Author.Tests.{eqb-true, eq-eqb}
+use Rattle.walk.specs.Checks.{sameBytes}
+
+pub same-refl : (x : List ℕ) → sameBytes x x ≡ true
+same-refl [] = refl
+same-refl (x ∷ xs) = rw (eq-eqb x x refl) (same-refl xs)
+
+pub eq-of-same : (x y : List ℕ) → sameBytes x y ≡ true → x ≡ y
+eq-of-same [] [] e = refl
+eq-of-same [] (y ∷ ys) e = absurd (let z : _≡_ {A = ℕ} 0 1 = cc in omega arith)
+eq-of-same (x ∷ xs) [] e = absurd (let z : _≡_ {A = ℕ} 0 1 = cc in omega arith)
+eq-of-same (x ∷ xs) (y ∷ ys) e = go (eqb x y) refl e (eq-of-same xs ys)
+  where
+    go : (t : Bool) → eqb x y ≡ t → t && sameBytes xs ys ≡ true → (sameBytes xs ys ≡ true → xs ≡ ys) → x ∷ xs ≡ y ∷ ys
+    go true k f ih = rw (eqb-true x y k, ih f)
+    go false k f ih = absurd (let z : _≡_ {A = ℕ} 0 1 = cc in omega arith)
+
+-- what decides equality is `sameBytes`
+pub same-is : (x y : List ℕ) (r : Bool) → (r ≡ true → x ≡ y) × (x ≡ y → r ≡ true) → r ≡ sameBytes x y
+same-is x y true h = sym (ap (λ (z : List ℕ). sameBytes x z) (sym (h .0 refl)) ∙ same-refl x)
+same-is x y false h = go (sameBytes x y) refl
+  where
+    go : (t : Bool) → sameBytes x y ≡ t → false ≡ t
+    go true e = h .1 (eq-of-same x y e)
+    go false e = refl

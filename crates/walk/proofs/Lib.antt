@@ -1,0 +1,3 @@
+pub mod Equality
+pub mod Judged
+pub mod Walking

@@ -1,0 +1,90 @@
+-- `walk::judge_match` meets its contract: each way out is what checks 7 and 8 come to there. Assumes nothing.
+use mathlib.Core.Path.{_≡_, refl, sym, _∙_}
+use mathlib.Core.Bool.{true, false}
+use native.Mathlib.Omega.{arith}
+use borrow.Author.Tests.{leb-true}
+use Rattle.walk.proofs.Judged.{judged-store, judged-version}
+use borrow.Author.Needs.{needs}
+use Rattle.walk.proofs.judge_match.Statement.{statement}
+use Rattle.walk.proofs.judge_match.Tie as tie
+
+enum-told : tie.Need-enum-told
+enum-told c = search needs
+
+enum-told-2 : tie.Need-enum-told-2
+enum-told-2 c = search needs
+
+in-store-requires : tie.Need-in-store-requires
+in-store-requires c κs = search needs
+
+returns : tie.Need-returns
+returns c =
+    let g = c .before .before .before .before .before .before .args in
+    rw (c .before .before .enum-told2 .given .1) (sym (judged-store (g .seen) (g .row) (g .version .now) (g .store .now) (c .before .before .before .before .before .before .pre .0) true (sym (c .before .in-store .ensures) ∙ c .if1 .taken)))
+
+stop-requires : tie.Need-stop-requires
+stop-requires c κs = search needs
+
+enum-told-3 : tie.Need-enum-told-3
+enum-told-3 c = search needs
+
+in-store-requires-2 : tie.Need-in-store-requires-2
+in-store-requires-2 c κs = search needs
+
+index-requires : tie.Need-index-requires
+index-requires c κs = search needs
+
+equal-requires : tie.Need-equal-requires
+equal-requires c κs =
+    let limit = rw (c .before .before .before .enum-told3 .given .1) at (c .before .before .before .before .before .before .before .pre .1) in
+    (omega (arith, limit, c .index .ensures .0), leb-true _ _ (sym (c .before .before .in-store2 .ensures) ∙ c .before .if2 .taken))
+
+returns-2 : tie.Need-returns-2
+returns-2 c =
+    let g = c .before .before .before .before .before .before .before .before .before .args in
+    rw (c .before .before .before .before .before .enum-told3 .given .1) (sym (judged-version (g .seen) (g .row) (g .version .now) (g .store .now) (c .before .before .before .before .before .before .before .before .before .pre .0) true true (sym (c .before .before .before .before .in-store2 .ensures) ∙ c .before .before .before .if2 .taken) (rw (c .before .before .index .ensures .0) at (sym (c .before .equal .ensures)) ∙ c .if3 .taken)))
+
+stop-requires-2 : tie.Need-stop-requires-2
+stop-requires-2 c κs = search needs
+
+returns-3 : tie.Need-returns-3
+returns-3 c =
+    let g = c .before .before .before .before .before .before .before .before .before .before .args in
+    c .stop2 .ensures ∙ rw (c .before .before .before .before .before .before .enum-told3 .given .1) (sym (judged-version (g .seen) (g .row) (g .version .now) (g .store .now) (c .before .before .before .before .before .before .before .before .before .before .pre .0) true false (sym (c .before .before .before .before .before .in-store2 .ensures) ∙ c .before .before .before .before .if2 .taken) (rw (c .before .before .before .index .ensures .0) at (sym (c .before .before .equal .ensures)) ∙ c .before .if3 .left)))
+
+stop-requires-3 : tie.Need-stop-requires-3
+stop-requires-3 c κs = search needs
+
+returns-4 : tie.Need-returns-4
+returns-4 c = search needs
+
+returns-5 : tie.Need-returns-5
+returns-5 c =
+    let g = c .before .before .before .before .before .before .before .args in
+    c .stop .ensures ∙ rw (c .before .before .before .enum-told2 .given .1) (sym (judged-store (g .seen) (g .row) (g .version .now) (g .store .now) (c .before .before .before .before .before .before .before .pre .0) false (sym (c .before .before .in-store .ensures) ∙ c .before .if1 .left)))
+
+returns-6 : tie.Need-returns-6
+returns-6 c =
+    let g = c .before .before .before .before .before .before .before .args in
+    c .stop3 .ensures ∙ rw (c .before .before .before .enum-told3 .given .1) (sym (judged-version (g .seen) (g .row) (g .version .now) (g .store .now) (c .before .before .before .before .before .before .before .pre .0) false _ (sym (c .before .before .in-store2 .ensures) ∙ c .before .if2 .left) (refl)))
+
+pub judge-match-spec : {M : Type 1} → statement M
+judge-match-spec =
+    tie.close
+    (tie.spec
+    enum-told
+    enum-told-2
+    in-store-requires
+    returns
+    stop-requires
+    enum-told-3
+    in-store-requires-2
+    index-requires
+    equal-requires
+    returns-2
+    stop-requires-2
+    returns-3
+    stop-requires-3
+    returns-4
+    returns-5
+    returns-6)

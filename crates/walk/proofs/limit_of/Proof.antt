@@ -1,0 +1,29 @@
+-- `walk::limit_of` meets its contract, by the three scopes. Assumes nothing.
+use borrow.Author.Needs.{needs}
+use Rattle.walk.proofs.limit_of.Statement.{statement}
+use Rattle.walk.proofs.limit_of.Tie as tie
+
+enum-told : tie.Need-enum-told
+enum-told c = search needs
+
+enum-told-2 : tie.Need-enum-told-2
+enum-told-2 c = search needs
+
+enum-told-3 : tie.Need-enum-told-3
+enum-told-3 c = search needs
+
+cast-result : tie.Need-cast-result
+cast-result c = search needs
+
+returns : tie.Need-returns
+returns c = search needs
+
+returns-2 : tie.Need-returns-2
+returns-2 c = search needs
+
+returns-3 : tie.Need-returns-3
+returns-3 c = rw (c .enum-told3 .given .1)
+
+pub limit-of-spec : {M : Type 1} → statement M
+limit-of-spec =
+    tie.close (tie.spec enum-told enum-told-2 enum-told-3 cast-result returns returns-2 returns-3)
