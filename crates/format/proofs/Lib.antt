@@ -1,2 +1,3 @@
 pub mod Rulings
 pub mod Rows
+pub mod Rebuilding

@@ -1,16 +1,21 @@
 -- Laws of rows: a list from row i on is row i and the list from row i + 1 on.
 -- Assumes nothing.
-use Prim.Native.Nat.{ℕ, zero, suc, _+_, _*_, _-_, _/_, _≤_, _<_}
+use Prim.Native.Nat.{ℕ, zero, suc, _+_, _*_, _-_, _/_, _%_, _≤_, _<_}
 use native.Mathlib.Omega.{arith}
-use mathlib.Core.Path.{_≡_, refl, ap}
+use native.Mathlib.Nat.{div-add-mod}
+use mathlib.Core.Path.{_≡_, refl, sym, _∙_, ap}
 use mathlib.Core.Bool.{Bool, true, false, cond}
 use mathlib.Core.List.{List, [], _∷_}
+use lib.Dec.{eqb, leb}
 use lib.ListN.{length}
+use borrow.Author.Tests.{leb-true, eqb-true}
 use Rattle.format.specs.declared.Row.{Row}
 use Rattle.format.specs.declared.Record.{Record}
 use Rattle.format.specs.declared.Record.the-variants.{New, Match}
-use Rattle.format.specs.Record.{from, isNew, recordOf, records, recordsOf}
+use Rattle.format.specs.Record.{from, rowAt, isNew, recordOf, records, recordsOf, listFits}
+use Rattle.format.specs.Limits.{listMost}
 use Rattle.format.specs.Meaning.{sizeOf, whole, stored}
+use Rattle.format.proofs.Rulings.{both-of-and}
 
 module _ {A : Type 0} (f : ℕ → A) where
   pub length-from : (i m : ℕ) → length (from f i m) ≡ m
@@ -45,5 +50,33 @@ stored-record r l = go (isNew r)
     go true = refl
     go false = omega arith
 
+-- the records of a list from record i on, of n
+abbrev pub recordsFrom : List ℕ → ℕ → ℕ → List Record
+recordsFrom list n i = records (from (rowAt list) i (n - i))
+
+pub recordsFrom-next : (list : List ℕ) (n i : ℕ) → i < n → recordsFrom list n i ≡ recordOf (rowAt list i) ∷ recordsFrom list n (i + 1)
+recordsFrom-next list n i h = ap records (from-next (rowAt list) i n h)
+
+pub recordsFrom-none : (list : List ℕ) (n i : ℕ) → n ≤ i → recordsFrom list n i ≡ []
+recordsFrom-none list n i h = ap records (from-none (rowAt list) i n h)
+
+pub recordsFrom-all : (list : List ℕ) → recordsOf list ≡ recordsFrom list (length list / 12) 0
+recordsFrom-all list =
+    let e : length list / 12 ≡ length list / 12 - 0 = omega arith in
+    ap (λ (m : ℕ). records (from (rowAt list) 0 m)) e
+
 pub length-recordsOf : (l : List ℕ) → length (recordsOf l) ≡ length l / 12
 length-recordsOf l = simp (length-records, length-from)
+
+-- a list that passes check 3 is so many whole records, and no more than 4,096
+pub record Counted (l : List ℕ) : Type 0 where
+  pub list-most : length l ≤ listMost
+  pub whole-records : length l ≡ 12 * length (recordsOf l)
+  pub count-most : length (recordsOf l) ≤ 4096
+
+pub counted-of-fits : (l : List ℕ) → listFits l ≡ true → Counted l
+counted-of-fits l h =
+    let k = both-of-and (leb (length l) listMost) (eqb (length l % 12) 0) h in
+    let m : length l ≤ listMost = leb-true (length l) listMost (k .0) in
+    let w : length l ≡ 12 * (length l / 12) = omega (arith, div-add-mod (length l) 12, eqb-true (length l % 12) 0 (k .1)) in
+    record { list-most = m; whole-records = omega (arith, length-recordsOf l); count-most = omega (arith, length-recordsOf l) }

@@ -3,7 +3,7 @@
 use Prim.Native.Nat.{ℕ}
 use native.Mathlib.Omega.{arith}
 use mathlib.Core.Path.{_≡_, refl}
-use mathlib.Core.Bool.{Bool, true, false}
+use mathlib.Core.Bool.{Bool, true, false, _&&_}
 use Rattle.format.specs.declared.Fault.{Fault}
 use Rattle.format.specs.declared.Refusal.{Refusal}
 use Rattle.format.specs.declared.Ruling.{Ruling}
@@ -27,3 +27,7 @@ then-of-fine a b e f = rw (e, f)
 pub true-of-need : (t : Bool) (f : Fault) (p : ℕ) → need t f p ≡ Fine → t ≡ true
 true-of-need true f p e = refl
 true-of-need false f p e = stop-fine e
+
+pub both-of-and : (a b : Bool) → a && b ≡ true → (a ≡ true) × (b ≡ true)
+both-of-and true b e = (refl, e)
+both-of-and false b e = absurd (let z : _≡_ {A = ℕ} 0 1 = cc in omega arith)

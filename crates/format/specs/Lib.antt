@@ -2,3 +2,4 @@ pub mod Limits
 pub mod Refusal
 pub mod Record
 pub mod Meaning
+pub mod WellFormed

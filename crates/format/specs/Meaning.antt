@@ -1,8 +1,8 @@
 -- What a list means: its sizes, the stored block, the version it rebuilds, and the part that one record stands for.
 -- Assumes nothing.
-use Prim.Native.Nat.{ℕ, zero, suc, _+_}
+use Prim.Native.Nat.{ℕ, _+_}
 use mathlib.Core.List.{List, [], _∷_, _++_}
-use lib.ListN.{take, drop}
+use lib.ListN.{take, drop, getD}
 use Rattle.format.specs.declared.Record.{Record}
 use Rattle.format.specs.declared.Record.the-variants.{New, Match}
 
@@ -24,9 +24,7 @@ stored (Match s a ∷ l) = stored l
 
 -- the offset of record k: the sum of the sizes before it
 abbrev pub offset : List Record → ℕ → ℕ
-offset [] k = 0
-offset (r ∷ l) zero = 0
-offset (r ∷ l) (suc k) = sizeOf r + offset l k
+offset l k = whole (take k l)
 
 -- the stored block of a list for the version v: the bytes of its new records, joined
 abbrev pub blockOf : List Record → List ℕ → List ℕ
@@ -45,13 +43,11 @@ pub data Part : Type 0 where
   ofBlock : ℕ → ℕ → Part
   ofStore : ℕ → ℕ → Part
 
--- the part that record k stands for, where b stored bytes come before the list
-abbrev pub partFrom : ℕ → List Record → ℕ → Part
-partFrom b [] k = ofBlock 0 0
-partFrom b (New s ∷ l) zero = ofBlock b s
-partFrom b (Match s a ∷ l) zero = ofStore a s
-partFrom b (New s ∷ l) (suc k) = partFrom (b + s) l k
-partFrom b (Match s a ∷ l) (suc k) = partFrom b l k
+-- the part that a record stands for, where b stored bytes come before it
+abbrev pub partOf : ℕ → Record → Part
+partOf b (New s) = ofBlock b s
+partOf b (Match s a) = ofStore a s
 
+-- the part that record k stands for
 abbrev pub partAt : List Record → ℕ → Part
-partAt l k = partFrom 0 l k
+partAt l k = partOf (stored (take k l)) (getD l k (New 0))

@@ -1,3 +1,5 @@
 pub mod Equality
 pub mod Judged
 pub mod Walking
+pub mod Telling
+pub mod Accepted

@@ -1,0 +1,19 @@
+-- Bytes copied into the rest of an area, seen as bytes over the whole area.
+-- Assumes nothing.
+use Prim.Native.Nat.{ℕ, _+_, _-_, _≤_}
+use native.Mathlib.Omega.{arith}
+use mathlib.Core.Path.{_≡_, refl, sym, _∙_, ap}
+use mathlib.Core.List.{List, [], _++_, append-assoc, append-nil}
+use lib.ListN.{length, take, drop, length-drop, drop-of-length-le}
+use lib.Seq.{take-all, take-length, drop-drop}
+use borrow.Rule.Slice.PartMut.{putMid}
+use Rattle.area.specs.Area.{pasted}
+
+-- `last` is what stands behind the place `at` once `src` was copied there
+pub pasted-of-copied : (at : ℕ) (src area last : List ℕ) → at ≤ length area
+    → last ≡ take (length src) src ++ drop (length src) (take (length area - at) (drop at area)) → putMid at (length area - at) area last ≡ pasted at src area
+pasted-of-copied at src area last h e =
+    let rest : take (length area - at) (drop at area) ≡ drop at area = take-all (length area - at) (drop at area) (omega (arith, length-drop at area)) in
+    let none : drop (length area - at) (drop at area) ≡ [] = drop-of-length-le (drop at area) {i = length area - at} (omega (arith, length-drop at area)) in
+    let behind : last ≡ src ++ drop (at + length src) area = e ∙ rw (rest, take-length src, drop-drop (length src) at area) in
+    rw (behind, none, append-nil, ← append-assoc)

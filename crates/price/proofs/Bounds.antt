@@ -1,0 +1,48 @@
+-- The price of an entry and the cost of a list fit 64 bits; what a price in range keeps to.
+-- Assumes nothing.
+use Prim.Native.Nat.{ℕ, _+_, _*_, _≤_, _<_}
+use native.Mathlib.Omega.{arith}
+use native.Mathlib.Nat.{mul-le-mul}
+use mathlib.Core.Path.{_≡_, refl, ap}
+use mathlib.Core.Bool.{Bool, true, false, _&&_, cond}
+use lib.Dec.{leb}
+use borrow.Author.Tests.{leb-true}
+use Rattle.format.proofs.Rulings.{both-of-and}
+use Rattle.price.specs.declared.DiskBytes.{DiskBytes}
+use Rattle.price.specs.declared.Priced.{Priced}
+use Rattle.price.specs.declared.Priced.the-variants.{At, OutOfRange}
+use Rattle.price.specs.Price.{priceFits, priceOf, priced}
+
+pub product-most : (a b m n : ℕ) → a ≤ m → b ≤ n → a * b ≤ m * n
+product-most a b m n h k = mul-le-mul {n₁ = a} {m₁ = b} {n₂ = m} {m₂ = n} h k
+
+pub record InRange (e f : ℕ) : Type 0 where
+  pub e-least : 1 ≤ e
+  pub e-most : e ≤ 255
+  pub f-least : 1 ≤ f
+  pub f-most : f ≤ 65535
+
+pub range-of-fits : (e f : ℕ) → priceFits e f ≡ true → InRange e f
+range-of-fits e f h =
+    let a = both-of-and (leb 1 e && leb e 255 && leb 1 f) (leb f 65535) h in
+    let b = both-of-and (leb 1 e && leb e 255) (leb 1 f) (a .0) in
+    let c = both-of-and (leb 1 e) (leb e 255) (b .0) in
+    record { e-least = leb-true 1 e (c .0); e-most = leb-true e 255 (c .1); f-least = leb-true 1 f (b .1); f-most = leb-true f 65535 (a .1) }
+
+pub price-most : (e f : ℕ) → priceFits e f ≡ true → priceOf e f ≤ 16711425
+price-most e f h = let r = range-of-fits e f h in product-most f e 65535 255 (r .f-most) (r .e-most)
+
+-- what a priced entry tells
+pub fits-of-at : (e f : ℕ) (d : DiskBytes) → priced e f ≡ At d → (priceFits e f ≡ true) × (d .0 ≡ priceOf e f)
+fits-of-at e f d h = go (priceFits e f) refl h
+  where
+    go : (t : Bool) → priceFits e f ≡ t → cond t (At (record { 0 = priceOf e f })) OutOfRange ≡ At d → (priceFits e f ≡ true) × (d .0 ≡ priceOf e f)
+    go true k l = (k, let m : d ≡ record { 0 = priceOf e f } = cc in ap (λ (x : DiskBytes). x .0) m)
+    go false k l = absurd (let z : _≡_ {A = ℕ} 0 1 = cc in omega arith)
+
+pub unfit-of-range : (e f : ℕ) → priced e f ≡ OutOfRange → priceFits e f ≡ false
+unfit-of-range e f h = go (priceFits e f) refl h
+  where
+    go : (t : Bool) → priceFits e f ≡ t → cond t (At (record { 0 = priceOf e f })) OutOfRange ≡ OutOfRange → priceFits e f ≡ false
+    go true k l = absurd (let z : _≡_ {A = ℕ} 0 1 = cc in omega arith)
+    go false k l = k

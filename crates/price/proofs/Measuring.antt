@@ -1,0 +1,30 @@
+-- Measure's answer, check by check.
+-- Assumes nothing.
+use Prim.Native.Nat.{ℕ}
+use mathlib.Core.Path.{_≡_, refl}
+use mathlib.Core.Bool.{true, false}
+use mathlib.Core.List.{List, []}
+use Rattle.format.specs.declared.Fault.the-variants.{Price, ListLength}
+use Rattle.format.specs.declared.Refusal.{Refusal}
+use Rattle.format.specs.declared.Ruling.the-variants.{Fine, Stop}
+use Rattle.format.specs.declared.Answer.the-variants.{Accepted, Refused}
+use Rattle.format.specs.Refusal.{refuse}
+use Rattle.format.specs.Record.{listFits, recordsOf}
+use Rattle.walk.specs.declared.Scope.the-variants as scope
+use Rattle.walk.specs.Checks.{checks, walkRuling}
+use Rattle.price.specs.Price.{priceFits, priceOf, measures, measured}
+
+module _ (e f : ℕ) (list : List ℕ) where
+  pub measured-price : priceFits e f ≡ false → measured e f list ≡ Refused (refuse Price 0)
+  measured-price h = rw h
+
+  module _ (h : priceFits e f ≡ true) where
+    pub measured-length : listFits list ≡ false → measured e f list ≡ Refused (refuse ListLength 0)
+    measured-length k = rw (h, k)
+
+    module _ (k : listFits list ≡ true) where
+      pub measured-stop : (x : Refusal) → walkRuling (checks scope.Sizes [] []) list ≡ Stop x → measured e f list ≡ Refused x
+      measured-stop x w = rw (h, k, w)
+
+      pub measured-fine : walkRuling (checks scope.Sizes [] []) list ≡ Fine → measured e f list ≡ Accepted (measures (priceOf e f) (recordsOf list))
+      measured-fine w = rw (h, k, w)

@@ -1,0 +1,120 @@
+-- `price::measure` meets its contract: each way out is the refusal of the check that failed there, or the figures of the list. Assumes nothing.
+use Prim.Native.Nat.{_≤_}
+use native.Mathlib.Omega.{arith}
+use mathlib.Core.Path.{_≡_, refl, sym, _∙_, ap}
+use lib.ListN.{length}
+use borrow.Author.Tests.{not-true, not-false}
+use Rattle.format.specs.declared.Answer.the-variants.{Refused}
+use Rattle.format.specs.Record.{recordsOf}
+use Rattle.format.proofs.Rows.{counted-of-fits}
+use mathlib.Core.List.{[]}
+use Rattle.walk.specs.declared.Scope.the-variants as scope
+use Rattle.walk.specs.declared.Totals.{Totals}
+use Rattle.walk.specs.Checks.{checks, walkRuling}
+use Rattle.walk.specs.Walked.{refusalOf}
+use Rattle.walk.proofs.Telling.{fine-of-through, stop-of-stopped}
+use Rattle.price.proofs.Bounds.{fits-of-at, unfit-of-range, price-most}
+use Rattle.price.proofs.Measuring.{measured-price, measured-length, measured-stop, measured-fine}
+use borrow.Author.Needs.{needs}
+use Rattle.price.proofs.measure.Statement.{statement}
+use Rattle.price.proofs.measure.Tie as tie
+
+price-of-requires : tie.Need-price-of-requires
+price-of-requires c κs = search needs
+
+enum-known-priced : tie.Need-enum-known-priced
+enum-known-priced c = search needs
+
+enum-told : tie.Need-enum-told
+enum-told c = search needs
+
+refused-requires : tie.Need-refused-requires
+refused-requires c κs = search needs
+
+returns : tie.Need-returns
+returns c =
+    let g = c .before .before .before .before .before .args in
+    c .refused .ensures ∙ sym (measured-price (g .e) (g .f) (g .list .now) (unfit-of-range (g .e) (g .f) (sym (c .before .before .before .price-of .ensures) ∙ c .before .enum-told .given .1)))
+
+list-fits-requires : tie.Need-list-fits-requires
+list-fits-requires c κs = search needs
+
+refused-requires-2 : tie.Need-refused-requires-2
+refused-requires-2 c κs = search needs
+
+returns-2 : tie.Need-returns-2
+returns-2 c =
+    let g = c .before .before .before .before .before .before .before .before .args in
+    c .refused2 .ensures ∙ sym (measured-length (g .e) (g .f) (g .list .now) ((fits-of-at (g .e) (g .f) (c .before .before .before .before .priced .given .0 .0) (sym (c .before .before .before .before .before .before .price-of .ensures) ∙ c .before .before .before .before .priced .given .1)) .0) (sym (c .before .before .list-fits .ensures) ∙ not-true _ (c .before .if1 .taken)))
+
+sub-none : tie.Need-sub-none
+sub-none c = search needs
+
+part-none-start : tie.Need-part-none-start
+part-none-start c = search needs
+
+part-none-end : tie.Need-part-none-end
+part-none-end c = search needs
+
+walk-requires : tie.Need-walk-requires
+walk-requires c κs =
+    let g = c .before .before .before .before .before .before .before .before .args in
+    let fits = counted-of-fits (g .list .now) (sym (c .before .before .list-fits .ensures) ∙ not-false _ (c .before .if1 .left)) in
+    record { list-most = fits .list-most; version-most = omega arith }
+
+enum-known-walked : tie.Need-enum-known-walked
+enum-known-walked c = search needs
+
+enum-told-2 : tie.Need-enum-told-2
+enum-told-2 c = search needs
+
+refusal-of-requires : tie.Need-refusal-of-requires
+refusal-of-requires c κs = search needs
+
+returns-3 : tie.Need-returns-3
+returns-3 c =
+    let g = c .before .before .before .before .before .before .before .before .before .before .before .before .args in
+    let stopped = stop-of-stopped (walkRuling (checks scope.Sizes [] []) (g .list .now)) (recordsOf (g .list .now)) (c .before .enum-told2 .given .0 .0) (sym (c .before .before .before .walk .ensures) ∙ c .before .enum-told2 .given .1) in
+    ap Refused (c .refusal-of .ensures ∙ ap refusalOf (c .before .enum-told2 .given .1)) ∙ sym (measured-stop (g .e) (g .f) (g .list .now) ((fits-of-at (g .e) (g .f) (c .before .before .before .before .before .before .before .before .priced .given .0 .0) (sym (c .before .before .before .before .before .before .before .before .before .before .price-of .ensures) ∙ c .before .before .before .before .before .before .before .before .priced .given .1)) .0) (sym (c .before .before .before .before .before .before .list-fits .ensures) ∙ not-false _ (c .before .before .before .before .before .if1 .left)) _ stopped)
+
+cost-of-requires : tie.Need-cost-of-requires
+cost-of-requires c κs =
+    let g = c .before .before .before .before .before .before .before .before .before .before .before .before .args in
+    let through = fine-of-through (walkRuling (checks scope.Sizes [] []) (g .list .now)) (recordsOf (g .list .now)) (c .before .walked .given .0 .0) (sym (c .before .before .before .walk .ensures) ∙ c .before .walked .given .1) in
+    let count = (counted-of-fits (g .list .now) (sym (c .before .before .before .before .before .before .list-fits .ensures) ∙ not-false _ (c .before .before .before .before .before .if1 .left))) .count-most in
+    (omega (arith, (fits-of-at (g .e) (g .f) (c .before .before .before .before .before .before .before .before .priced .given .0 .0) (sym (c .before .before .before .before .before .before .before .before .before .before .price-of .ensures) ∙ c .before .before .before .before .before .before .before .before .priced .given .1)) .1, price-most (g .e) (g .f) ((fits-of-at (g .e) (g .f) (c .before .before .before .before .before .before .before .before .priced .given .0 .0) (sym (c .before .before .before .before .before .before .before .before .before .before .price-of .ensures) ∙ c .before .before .before .before .before .before .before .before .priced .given .1)) .0)), omega (arith, count, ap (λ (t : Totals). t .entries) (through .1)))
+
+returns-4 : tie.Need-returns-4
+returns-4 c =
+    let g = c .before .before .before .before .before .before .before .before .before .before .before .before .before .args in
+    let through = fine-of-through (walkRuling (checks scope.Sizes [] []) (g .list .now)) (recordsOf (g .list .now)) (c .before .before .walked .given .0 .0) (sym (c .before .before .before .before .walk .ensures) ∙ c .before .before .walked .given .1) in
+    let price = (fits-of-at (g .e) (g .f) (c .before .before .before .before .before .before .before .before .before .priced .given .0 .0) (sym (c .before .before .before .before .before .before .before .before .before .before .before .price-of .ensures) ∙ c .before .before .before .before .before .before .before .before .before .priced .given .1)) in
+    let l = recordsOf (g .list .now) in
+    let n = ap (λ (t : Totals). t .entries) (through .1) in
+    let s = ap (λ (t : Totals). t .stored) (through .1) in
+    let w = ap (λ (t : Totals). t .whole) (through .1) in
+    let k = rw (price .1, n, s) at (c .cost-of .ensures) in
+    cc (measured-fine (g .e) (g .f) (g .list .now) (price .0) (sym (c .before .before .before .before .before .before .before .list-fits .ensures) ∙ not-false _ (c .before .before .before .before .before .before .if1 .left)) (through .0))
+
+pub measure-spec : {M : Type 1} → statement M
+measure-spec =
+    tie.close
+    (tie.spec
+    price-of-requires
+    enum-known-priced
+    enum-told
+    refused-requires
+    returns
+    list-fits-requires
+    refused-requires-2
+    returns-2
+    sub-none
+    part-none-start
+    part-none-end
+    walk-requires
+    enum-known-walked
+    enum-told-2
+    refusal-of-requires
+    returns-3
+    cost-of-requires
+    returns-4)

@@ -1,0 +1,86 @@
+// The price of an index entry, the cost of a list, and the call measure.
+//
+// Index bytes and disk bytes are two units: `worth` alone brings them together.
+ghost use mathlib.Core.Path.{_≡_};
+ghost use Prim.Native.Nat.{_+_, _*_, _≤_, _<_};
+ghost use Rattle.price.specs.Price.{priceOf, priced, measured};
+
+use format::Answer;
+use format::Fault;
+use format::Figures;
+use walk::Scope;
+use walk::Totals;
+use walk::Walked;
+
+// Bytes of the index.
+pub struct IndexBytes(pub u64);
+
+// Bytes of disk, the unit of cost.
+pub struct DiskBytes(pub u64);
+
+// The price of an entry, where E and F are in their ranges.
+pub enum Priced {
+    At(DiskBytes),
+    OutOfRange,
+}
+
+// The disk bytes that index bytes are worth, at so many for each.
+pub fn worth(index: IndexBytes, factor: u32) -> DiskBytes
+    requires { ⌜ index .0 < 4294967296 ⌝ }
+    ensures { λ r. ⌜ r ≡ record { 0 = factor * index .0 } ⌝ }
+{
+    DiskBytes((factor as u64) * index.0)
+}
+
+// P, the price of an entry: check 1.
+pub fn price_of(e: u32, f: u32) -> Priced
+    ensures { λ r. ⌜ r ≡ priced e f ⌝ }
+{
+    if e < 1 {
+        return Priced::OutOfRange;
+    }
+    if 255 < e {
+        return Priced::OutOfRange;
+    }
+    if f < 1 {
+        return Priced::OutOfRange;
+    }
+    if 65535 < f {
+        return Priced::OutOfRange;
+    }
+    Priced::At(worth(IndexBytes(e as u64), f))
+}
+
+// The cost of so many entries and stored bytes, at the price p of an entry.
+pub fn cost_of(p: DiskBytes, entries: u32, stored: u32) -> DiskBytes
+    requires { ⌜ (p .0 ≤ 16711425) × (entries ≤ 4096) ⌝ }
+    ensures { λ r. ⌜ r .0 ≡ p .0 * entries + stored ⌝ }
+{
+    DiskBytes(p.0 * (entries as u64) + (stored as u64))
+}
+
+// Measure: entries, stored bytes, whole length and cost of a list.
+pub fn measure(e: u32, f: u32, list: &[u8]) -> Answer
+    ensures { λ r. ⌜ r ≡ measured e f (now (list .entry)) ⌝ }
+{
+    let priced = price_of(e, f);
+    let Priced::At(p) = priced else {
+        return format::refused(Fault::Price);
+    };
+    if !format::list_fits(list) {
+        return format::refused(Fault::ListLength);
+    }
+    let none = &list[0..0];
+    let walked = walk::walk(list, none, none, Scope::Sizes);
+    let Walked::Through(t) = walked else {
+        return Answer::Refused(walk::refusal_of(walked));
+    };
+    let cost = cost_of(p, t.entries, t.stored);
+    Answer::Accepted(Figures {
+        cost: cost.0,
+        entries: t.entries,
+        stored: t.stored,
+        looks: 0,
+        whole: t.whole,
+    })
+}
