@@ -2,12 +2,13 @@
 -- Assumes nothing.
 use Prim.Native.Nat.{ℕ, zero, suc, _+_, _*_, _-_, _/_, _%_, _≤_, _<_}
 use native.Mathlib.Omega.{arith}
-use native.Mathlib.Nat.{div-add-mod}
+use native.Mathlib.Nat.{div-add-mod, add-zero, add-assoc}
+use native.Mathlib.Numerals.{add-one}
 use mathlib.Core.Path.{_≡_, refl, sym, _∙_, ap}
 use mathlib.Core.Bool.{Bool, true, false, cond}
 use mathlib.Core.List.{List, [], _∷_}
 use lib.Dec.{eqb, leb}
-use lib.ListN.{length}
+use lib.ListN.{length, take, getD}
 use borrow.Author.Tests.{leb-true, eqb-true}
 use Rattle.format.specs.declared.Row.{Row}
 use Rattle.format.specs.declared.Record.{Record}
@@ -67,6 +68,36 @@ recordsFrom-all list =
 
 pub length-recordsOf : (l : List ℕ) → length (recordsOf l) ≡ length l / 12
 length-recordsOf l = simp (length-records, length-from)
+
+getD-records : (f : ℕ → Row) (i j m : ℕ) → j < m → getD (records (from f i m)) j (New 0) ≡ recordOf (f (i + j))
+getD-records f i j zero h = absurd (omega arith)
+getD-records f i zero (suc m) h = ap (λ (k : ℕ). recordOf (f k)) (sym (add-zero i))
+getD-records f i (suc j) (suc m) h =
+    getD-records f (i + 1) j m (omega arith) ∙ (let e : i + 1 + j ≡ i + suc j = omega arith in ap (λ (k : ℕ). recordOf (f k)) e)
+
+-- record i of a list is that of row i
+pub getD-recordsOf : (l : List ℕ) (i : ℕ) → i < length (recordsOf l) → getD (recordsOf l) i (New 0) ≡ recordOf (rowAt l i)
+getD-recordsOf l i h =
+    getD-records (rowAt l) 0 i (length l / 12) (omega (arith, length-recordsOf l)) ∙ (let e : 0 + i ≡ i = omega arith in ap (λ (k : ℕ). recordOf (rowAt l k)) e)
+
+pub stored-cons : (r : Record) (l : List Record) → stored (r ∷ l) ≡ stored (r ∷ []) + stored l
+stored-cons (New s) l = omega arith
+stored-cons (Match s a) l = omega arith
+
+-- one record more
+pub stored-take-next : (l : List Record) (i : ℕ) → i < length l → stored (take (i + 1) l) ≡ stored (take i l) + stored (getD l i (New 0) ∷ [])
+stored-take-next l i h = ap (λ (k : ℕ). stored (take k l)) (add-one i) ∙ go l i h
+  where
+    go : (l : List Record) (i : ℕ) → i < length l → stored (take (suc i) l) ≡ stored (take i l) + stored (getD l i (New 0) ∷ [])
+    go [] i h = absurd (omega arith)
+    go (r ∷ l) zero h = omega arith
+    go (r ∷ l) (suc i) h = omega (arith, stored-cons r (take (suc i) l), stored-cons r (take i l), go l i (omega arith))
+
+pub stored-take-most : (l : List Record) (i : ℕ) → stored (take i l) ≤ stored l
+stored-take-most [] zero = omega arith
+stored-take-most [] (suc i) = omega arith
+stored-take-most (r ∷ l) zero = omega arith
+stored-take-most (r ∷ l) (suc i) = omega (arith, stored-cons r (take i l), stored-cons r l, stored-take-most l i)
 
 -- a list that passes check 3 is so many whole records, and no more than 4,096
 pub record Counted (l : List ℕ) : Type 0 where

@@ -8,7 +8,9 @@ use Rattle.format.specs.declared.Fault.{Fault}
 use Rattle.format.specs.declared.Refusal.{Refusal}
 use Rattle.format.specs.declared.Ruling.{Ruling}
 use Rattle.format.specs.declared.Ruling.the-variants.{Fine, Stop}
-use Rattle.format.specs.Refusal.{need, _then_}
+use Rattle.format.specs.declared.Figures.{Figures}
+use Rattle.format.specs.declared.Answer.the-variants.{Accepted, Refused}
+use Rattle.format.specs.Refusal.{need, _then_, answer}
 
 pub stop-fine : {A : Type 0} {x : Refusal} → Stop x ≡ Fine → A
 stop-fine e = absurd (let z : _≡_ {A = ℕ} 0 1 = cc in omega arith)
@@ -31,3 +33,11 @@ true-of-need false f p e = stop-fine e
 pub both-of-and : (a b : Bool) → a && b ≡ true → (a ≡ true) × (b ≡ true)
 both-of-and true b e = (refl, e)
 both-of-and false b e = absurd (let z : _≡_ {A = ℕ} 0 1 = cc in omega arith)
+
+pub fine-of-accepted : (q : Ruling) (x y : Figures) → answer q x ≡ Accepted y → q ≡ Fine
+fine-of-accepted Fine x y e = refl
+fine-of-accepted (Stop r) x y e = absurd (let z : _≡_ {A = ℕ} 0 1 = cc in omega arith)
+
+pub stop-of-refused : (q : Ruling) (x : Figures) (r : Refusal) → answer q x ≡ Refused r → q ≡ Stop r
+stop-of-refused Fine x r e = absurd (let z : _≡_ {A = ℕ} 0 1 = cc in omega arith)
+stop-of-refused (Stop y) x r e = cc

@@ -1,0 +1,104 @@
+-- `rebuild::accept` meets its contract: each way out is the ruling of the check that failed there, or none. Assumes nothing.
+use native.Mathlib.Omega.{arith}
+use mathlib.Core.Path.{_≡_, refl, sym, _∙_, ap}
+use mathlib.Core.List.{[]}
+use borrow.Author.Tests.{not-true, not-false}
+use lib.ListN.{length}
+use Rattle.format.specs.Record.{recordsOf}
+use Rattle.format.specs.Meaning.{stored}
+use Rattle.format.proofs.Rows.{counted-of-fits}
+use Rattle.walk.specs.declared.Scope.the-variants as scope
+use Rattle.walk.specs.declared.Totals.{Totals}
+use Rattle.walk.specs.declared.Walked.the-variants.{Through}
+use Rattle.walk.specs.Checks.{checks, walkRuling}
+use Rattle.walk.proofs.Telling.{fine-of-through, stop-of-stopped}
+use Rattle.rebuild.proofs.Accepting.{inputs-long, inputs-list, inputs-walk, inputs-block, inputs-fine}
+use borrow.Author.Needs.{needs}
+use Rattle.rebuild.proofs.accept.Statement.{statement}
+use Rattle.rebuild.proofs.accept.Tie as tie
+
+stopped-requires : tie.Need-stopped-requires
+stopped-requires c κs = search needs
+
+returns : tie.Need-returns
+returns c =
+    let g = c .before .before .before .before .before .args in
+    rw (inputs-long (g .list .now) (g .block .now) (g .store .now) (c .before .if1 .taken)) (c .stopped .ensures)
+
+list-fits-requires : tie.Need-list-fits-requires
+list-fits-requires c κs = search needs
+
+stopped-requires-2 : tie.Need-stopped-requires-2
+stopped-requires-2 c κs = search needs
+
+returns-2 : tie.Need-returns-2
+returns-2 c =
+    let g = c .before .before .before .before .before .before .before .args in
+    rw (inputs-list (g .list .now) (g .block .now) (g .store .now) (c .before .before .before .if1 .left) (sym (c .before .before .list-fits .ensures) ∙ not-true _ (c .before .if2 .taken))) (c .stopped2 .ensures)
+
+sub-walk : tie.Need-sub-walk
+sub-walk c = search needs
+
+part-walk-start : tie.Need-part-walk-start
+part-walk-start c = search needs
+
+part-walk-end : tie.Need-part-walk-end
+part-walk-end c = search needs
+
+walk-requires : tie.Need-walk-requires
+walk-requires c κs =
+    let g = c .before .before .before .before .before .before .before .args in
+    record { list-most = (counted-of-fits (g .list .now) (sym (c .before .before .list-fits .ensures) ∙ not-false _ (c .before .if2 .left))) .list-most; version-most = omega arith }
+
+enum-known-w : tie.Need-enum-known-w
+enum-known-w c = search needs
+
+enum-told : tie.Need-enum-told
+enum-told c = search needs
+
+returns-3 : tie.Need-returns-3
+returns-3 c =
+    let g = c .before .before .before .before .before .before .before .before .before .before .args in
+    let stop = stop-of-stopped (walkRuling (checks scope.Store [] (g .store .now)) (g .list .now)) (recordsOf (g .list .now)) (c .enum-told .given .0 .0) (sym (c .before .before .walk .ensures) ∙ c .enum-told .given .1) in
+    rw (inputs-walk (g .list .now) (g .block .now) (g .store .now) (c .before .before .before .before .before .before .if1 .left) (sym (c .before .before .before .before .before .list-fits .ensures) ∙ not-false _ (c .before .before .before .before .if2 .left)) (c .enum-told .given .0 .0) stop) (c .enum-told .given .1)
+
+index-requires : tie.Need-index-requires
+index-requires c κs = search needs
+
+stopped-requires-3 : tie.Need-stopped-requires-3
+stopped-requires-3 c κs = search needs
+
+returns-4 : tie.Need-returns-4
+returns-4 c =
+    let g = c .before .before .before .before .before .before .before .before .before .before .before .before .before .before .args in
+    let through = fine-of-through (walkRuling (checks scope.Store [] (g .store .now)) (g .list .now)) (recordsOf (g .list .now)) (c .before .before .before .before .w .given .0 .0) (sym (c .before .before .before .before .before .before .walk .ensures) ∙ c .before .before .before .before .w .given .1) in
+    let differ : length (g .block .now) ≡ stored (recordsOf (g .list .now)) → ⊥ = λ e. c .before .if3 .taken (e ∙ sym (c .before .before .index .ensures .0 ∙ ap (λ (t : Totals). t .stored) (through .1))) in
+    rw (inputs-block (g .list .now) (g .block .now) (g .store .now) (c .before .before .before .before .before .before .before .before .before .before .if1 .left) (sym (c .before .before .before .before .before .before .before .before .before .list-fits .ensures) ∙ not-false _ (c .before .before .before .before .before .before .before .before .if2 .left)) (through .0) differ) (c .stopped3 .ensures)
+
+returns-5 : tie.Need-returns-5
+returns-5 c =
+    let g = c .before .before .before .before .before .before .before .before .before .before .before .before .before .args in
+    let through = fine-of-through (walkRuling (checks scope.Store [] (g .store .now)) (g .list .now)) (recordsOf (g .list .now)) (c .before .before .before .w .given .0 .0) (sym (c .before .before .before .before .before .walk .ensures) ∙ c .before .before .before .w .given .1) in
+    let same = c .if3 .left ∙ c .before .index .ensures .0 ∙ ap (λ (t : Totals). t .stored) (through .1) in
+    rw (inputs-fine (g .list .now) (g .block .now) (g .store .now) (c .before .before .before .before .before .before .before .before .before .if1 .left) (sym (c .before .before .before .before .before .before .before .before .list-fits .ensures) ∙ not-false _ (c .before .before .before .before .before .before .before .if2 .left)) (through .0) same) (ap Through (through .1))
+
+pub accept-spec : {M : Type 1} → statement M
+accept-spec =
+    tie.close
+    (tie.spec
+    stopped-requires
+    returns
+    list-fits-requires
+    stopped-requires-2
+    returns-2
+    sub-walk
+    part-walk-start
+    part-walk-end
+    walk-requires
+    enum-known-w
+    enum-told
+    returns-3
+    index-requires
+    stopped-requires-3
+    returns-4
+    returns-5)

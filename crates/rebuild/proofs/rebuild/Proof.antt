@@ -1,0 +1,92 @@
+-- `rebuild::rebuild` meets its contract. Assumes nothing.
+use Prim.Native.Nat.{ℕ}
+use native.Mathlib.Omega.{arith}
+use mathlib.Core.Path.{_≡_, refl, sym, _∙_, ap}
+use lib.ListN.{length}
+use borrow.Author.Tests.{le-leb, lt-leb}
+use Rattle.format.specs.declared.Answer.the-variants.{Refused, Accepted}
+use Rattle.format.specs.Record.{recordsOf}
+use Rattle.format.specs.Meaning.{whole}
+use Rattle.walk.specs.declared.Totals.{Totals}
+use Rattle.walk.specs.Walked.{refusalOf}
+use Rattle.walk.proofs.Telling.{fine-of-through, stop-of-stopped}
+use Rattle.rebuild.specs.Rebuild.{inputsRuling, lengthOnly}
+use Rattle.rebuild.proofs.Accepting.{readable-of-inputs}
+use borrow.Author.Needs.{needs}
+use Rattle.rebuild.proofs.rebuild.Statement.{statement}
+use Rattle.rebuild.proofs.rebuild.Tie as tie
+
+accept-requires : tie.Need-accept-requires
+accept-requires c κs = search needs
+
+enum-known-w : tie.Need-enum-known-w
+enum-known-w c = search needs
+
+enum-told : tie.Need-enum-told
+enum-told c = search needs
+
+refusal-of-requires : tie.Need-refusal-of-requires
+refusal-of-requires c κs = search needs
+
+returns : tie.Need-returns
+returns c =
+    let g = c .before .before .before .before .before .before .before .before .args in
+    let stop = stop-of-stopped (inputsRuling (g .list .now) (g .block .now) (g .store .now)) (recordsOf (g .list .now)) (c .before .enum-told .given .0 .0) (sym (c .before .before .before .accept .ensures) ∙ c .before .enum-told .given .1) in
+    record { answered = rw stop (ap Refused (c .refusal-of .ensures ∙ ap refusalOf (c .before .enum-told .given .1))); area-after = rw stop }
+
+index-requires : tie.Need-index-requires
+index-requires c κs = search needs
+
+refused-requires : tie.Need-refused-requires
+refused-requires c κs = search needs
+
+returns-2 : tie.Need-returns-2
+returns-2 c =
+    let g = c .before .before .before .before .before .before .before .before .before .before .before .args in
+    let through = fine-of-through (inputsRuling (g .list .now) (g .block .now) (g .store .now)) (recordsOf (g .list .now)) (c .before .before .before .before .w .given .0 .0) (sym (c .before .before .before .before .before .before .accept .ensures) ∙ c .before .before .before .before .w .given .1) in
+    let short = lt-leb (whole (recordsOf (g .list .now))) (length (g .area .now)) (omega (arith, c .before .before .index .ensures .0, ap (λ (t : Totals). t .whole) (through .1))) in
+    record { answered = rw (through .0, short) (c .refused .ensures); area-after = rw (through .0, short) }
+
+fill-requires : tie.Need-fill-requires
+fill-requires c κs =
+    let g = c .before .before .before .before .before .before .before .before .before .before .before .args in
+    let through = fine-of-through (inputsRuling (g .list .now) (g .block .now) (g .store .now)) (recordsOf (g .list .now)) (c .before .before .before .before .w .given .0 .0) (sym (c .before .before .before .before .before .before .accept .ensures) ∙ c .before .before .before .before .w .given .1) in
+    let readable = readable-of-inputs (g .list .now) (g .block .now) (g .store .now) (through .0) in
+    record {
+      inside = readable .1 .inside;
+      block-fits = readable .1 .block-fits;
+      room = omega (arith, c .before .before .index .ensures .0, ap (λ (t : Totals). t .whole) (through .1));
+    }
+
+accepted-requires : tie.Need-accepted-requires
+accepted-requires c κs = search needs
+
+same-length : tie.Need-same-length
+same-length c = search needs
+
+returns-3 : tie.Need-returns-3
+returns-3 c =
+    let g = c .before .before .before .before .before .before .before .before .before .before .before .before .before .before .before .args in
+    let through = fine-of-through (inputsRuling (g .list .now) (g .block .now) (g .store .now)) (recordsOf (g .list .now)) (c .before .before .before .before .before .before .before .before .w .given .0 .0) (sym (c .before .before .before .before .before .before .before .before .before .before .accept .ensures) ∙ c .before .before .before .before .before .before .before .before .w .given .1) in
+    let long = le-leb (whole (recordsOf (g .list .now))) (length (g .area .now)) (omega (arith, c .before .before .before .before .before .before .index .ensures .0, ap (λ (t : Totals). t .whole) (through .1))) in
+    record {
+      answered = rw (through .0, long) (c .accepted .ensures ∙ ap (λ (t : Totals). Accepted (lengthOnly (t .whole))) (through .1));
+      area-after = rw (through .0, long) (c .before .before .before .fill .ensures);
+    }
+
+pub rebuild-spec : {M : Type 1} → statement M
+rebuild-spec =
+    tie.close
+    (tie.spec
+    accept-requires
+    enum-known-w
+    enum-told
+    refusal-of-requires
+    returns
+    index-requires
+    refused-requires
+    returns-2
+    fill-requires
+    accepted-requires
+    same-length
+    returns-3)

@@ -1,0 +1,98 @@
+-- `rebuild::show` meets its contract: the part of record k where check accepts, else the block's first 0 bytes. Assumes nothing.
+use Prim.Native.Nat.{ℕ, _<_}
+use native.Mathlib.Omega.{arith}
+use mathlib.Core.Path.{_≡_, refl, sym, _∙_, ap}
+use lib.ListN.{length, take, getD}
+use Rattle.format.specs.declared.Record.{Record}
+use Rattle.format.specs.declared.Record.the-variants.{New}
+use Rattle.format.specs.Record.{rowAt, recordOf, recordsOf}
+use Rattle.format.specs.Meaning.{stored, partOf}
+use Rattle.format.proofs.Rulings.{fine-of-accepted, stop-of-refused}
+use Rattle.format.proofs.Rows.{getD-recordsOf, length-recordsOf}
+use Rattle.format.proofs.Rebuilding.{stored-most}
+use Rattle.rebuild.specs.Rebuild.{checkRuling, lengthOnly}
+use Rattle.rebuild.specs.Show.{lent, Lies}
+use Rattle.rebuild.proofs.Accepting.{checked-parts}
+use Rattle.rebuild.proofs.Copying.{lies-at}
+use borrow.Author.Needs.{needs}
+use Rattle.rebuild.proofs.show.Statement.{statement}
+use Rattle.rebuild.proofs.show.Tie as tie
+
+check-requires : tie.Need-check-requires
+check-requires c κs = search needs
+
+enum-known-answer : tie.Need-enum-known-answer
+enum-known-answer c = search needs
+
+enum-told : tie.Need-enum-told
+enum-told c = search needs
+
+sub-result : tie.Need-sub-result
+sub-result c = search needs
+
+part-result-start : tie.Need-part-result-start
+part-result-start c = search needs
+
+part-result-end : tie.Need-part-result-end
+part-result-end c = search needs
+
+returns : tie.Need-returns
+returns c =
+    let g = c .before .before .before .before .before .before .before .args in
+    rw (stop-of-refused (checkRuling (g .list .now) (g .block .now) (g .store .now) (g .k)) (lengthOnly 0) (c .before .enum-told .given .0 .0) (sym (c .before .before .before .check .ensures) ∙ c .before .enum-told .given .1))
+
+index-requires : tie.Need-index-requires
+index-requires c κs = search needs
+
+row-at-requires : tie.Need-row-at-requires
+row-at-requires c κs =
+    let g = c .before .before .before .before .before .before .before .before .args in
+    let fine = fine-of-accepted (checkRuling (g .list .now) (g .block .now) (g .store .now) (g .k)) (lengthOnly 0) (c .before .before .answer .given .0 .0) (sym (c .before .before .before .before .check .ensures) ∙ c .before .before .answer .given .1) in
+    let both = checked-parts (g .list .now) (g .block .now) (g .store .now) (g .k) fine in
+    omega (arith, both .1, c .index .ensures .0, length-recordsOf (g .list .now))
+
+record-of-requires : tie.Need-record-of-requires
+record-of-requires c κs = search needs
+
+stored-before-requires : tie.Need-stored-before-requires
+stored-before-requires c κs =
+    let g = c .before .before .before .before .before .before .before .before .before .before .args in
+    let fine = fine-of-accepted (checkRuling (g .list .now) (g .block .now) (g .store .now) (g .k)) (lengthOnly 0) (c .before .before .before .before .answer .given .0 .0) (sym (c .before .before .before .before .before .before .check .ensures) ∙ c .before .before .before .before .answer .given .1) in
+    let both = checked-parts (g .list .now) (g .block .now) (g .store .now) (g .k) fine in
+    (omega (arith, both .1, c .before .before .index .ensures .0), omega (arith, both .0 .whole-most, stored-most (recordsOf (g .list .now))))
+
+part-of-requires : tie.Need-part-of-requires
+part-of-requires c κs =
+    let g = c .before .before .before .before .before .before .before .before .before .before .before .args in
+    let fine = fine-of-accepted (checkRuling (g .list .now) (g .block .now) (g .store .now) (g .k)) (lengthOnly 0) (c .before .before .before .before .before .answer .given .0 .0) (sym (c .before .before .before .before .before .before .before .check .ensures) ∙ c .before .before .before .before .before .answer .given .1) in
+    let both = checked-parts (g .list .now) (g .block .now) (g .store .now) (g .k) fine in
+    let is : c .before .record-of .result ≡ getD (recordsOf (g .list .now)) (g .k) (New 0) = c .before .record-of .ensures ∙ ap recordOf (c .before .before .row-at .ensures ∙ ap (rowAt (g .list .now)) (c .before .before .before .index .ensures .0)) ∙ sym (getD-recordsOf (g .list .now) (g .k) (both .1)) in
+    let from : c .stored-before .result ≡ stored (take (g .k) (recordsOf (g .list .now))) = c .stored-before .ensures ∙ ap (λ (j : ℕ). stored (take j (recordsOf (g .list .now)))) (c .before .before .before .index .ensures .0) in
+    rw (is, from) (lies-at (recordsOf (g .list .now)) (g .block .now) (g .store .now) (g .k) (both .0 .inside) (both .0 .block-fits) (both .1))
+
+returns-2 : tie.Need-returns-2
+returns-2 c =
+    let g = c .before .before .before .before .before .before .before .before .before .before .before .before .args in
+    let fine = fine-of-accepted (checkRuling (g .list .now) (g .block .now) (g .store .now) (g .k)) (lengthOnly 0) (c .before .before .before .before .before .before .answer .given .0 .0) (sym (c .before .before .before .before .before .before .before .before .check .ensures) ∙ c .before .before .before .before .before .before .answer .given .1) in
+    let both = checked-parts (g .list .now) (g .block .now) (g .store .now) (g .k) fine in
+    let is : c .before .before .record-of .result ≡ getD (recordsOf (g .list .now)) (g .k) (New 0) = c .before .before .record-of .ensures ∙ ap recordOf (c .before .before .before .row-at .ensures ∙ ap (rowAt (g .list .now)) (c .before .before .before .before .index .ensures .0)) ∙ sym (getD-recordsOf (g .list .now) (g .k) (both .1)) in
+    let from : c .before .stored-before .result ≡ stored (take (g .k) (recordsOf (g .list .now))) = c .before .stored-before .ensures ∙ ap (λ (j : ℕ). stored (take j (recordsOf (g .list .now)))) (c .before .before .before .before .index .ensures .0) in
+    c .part-of .ensures ∙ rw (fine, is, from)
+
+pub show-spec : {M : Type 1} → statement M
+show-spec =
+    tie.close
+    (tie.spec
+    check-requires
+    enum-known-answer
+    enum-told
+    sub-result
+    part-result-start
+    part-result-end
+    returns
+    index-requires
+    row-at-requires
+    record-of-requires
+    stored-before-requires
+    part-of-requires
+    returns-2)

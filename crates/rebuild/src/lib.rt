@@ -1,0 +1,164 @@
+// The calls that read a list with its stored block and the store: check, show and rebuild.
+//
+// All three make the same checks of list, block and store (`accept`); none looks back at them once they are made.
+ghost use mathlib.Core.Path.{_≡_};
+ghost use Prim.Native.Nat.{_+_, _*_, _≤_, _<_};
+ghost use mathlib.Core.List.{[], _∷_};
+ghost use lib.ListN.{length, take};
+ghost use Rattle.format.specs.Meaning.{stored, partOf};
+ghost use Rattle.format.specs.Record.{recordsOf};
+ghost use Rattle.walk.specs.Walked.{walked};
+ghost use Rattle.rebuild.specs.Rebuild.{inputsRuling, checked, Rebuilt, Ready, filled};
+ghost use Rattle.rebuild.specs.Show.{whereOf, lent, Lies, shown};
+
+use format::Answer;
+use format::Fault;
+use format::Figures;
+use format::Record;
+use format::Refusal;
+use walk::Scope;
+use walk::Walked;
+
+fn stopped(fault: Fault) -> Walked
+    ensures { λ r. ⌜ r ≡ Walked.Stopped (record { fault = fault; place = 0 }) ⌝ }
+{
+    Walked::Stopped(Refusal { fault, place: 0 })
+}
+
+// What an accepted call answers that gives the whole length, or nothing but that.
+fn accepted(whole: u32) -> Answer
+    ensures { λ r. ⌜ r ≡ Answer.Accepted (record { cost = 0; entries = 0; stored = 0; looks = 0; whole = whole }) ⌝ }
+{
+    Answer::Accepted(Figures {
+        cost: 0,
+        entries: 0,
+        stored: 0,
+        looks: 0,
+        whole,
+    })
+}
+
+// Checks 2, 3, 4 to 7 and 10 of list, stored block and store.
+pub fn accept(list: &[u8], block: &[u8], store: &[u8]) -> Walked
+    ensures { λ r. ⌜ r ≡ walked (inputsRuling (now (list .entry)) (now (block .entry)) (now (store .entry))) (recordsOf (now (list .entry))) ⌝ }
+{
+    if 268435456 < store.len() {
+        return stopped(Fault::TooLong);
+    }
+    if !format::list_fits(list) {
+        return stopped(Fault::ListLength);
+    }
+    let w = walk::walk(list, &list[0..0], store, Scope::Store);
+    let Walked::Through(t) = w else {
+        return w;
+    };
+    if block.len() != format::index(t.stored) {
+        return stopped(Fault::BlockLength);
+    }
+    w
+}
+
+// Check: accepted where list, block and store have no fault and there is a record k.
+pub fn check(list: &[u8], block: &[u8], store: &[u8], k: u32) -> Answer
+    ensures { λ r. ⌜ r ≡ checked (now (list .entry)) (now (block .entry)) (now (store .entry)) k ⌝ }
+{
+    let w = accept(list, block, store);
+    let Walked::Through(t) = w else {
+        return Answer::Refused(walk::refusal_of(w));
+    };
+    if t.entries <= k {
+        return format::refused(Fault::NoSuchRecord);
+    }
+    accepted(0)
+}
+
+// The part that a record stands for, where so many stored bytes come before it.
+fn part_of<'a>(item: Record, before: usize, block: &'a [u8], store: &'a [u8]) -> &'a [u8]
+    requires { ⌜ Lies (partOf before item) (now block) (now store) ⌝ }
+    ensures { λ r. ⌜ whereOf r ≡ lent (block .entry) (store .entry) (partOf before item) ⌝ }
+{
+    match item {
+        Record::New(size) => {
+            let to = before + format::index(size);
+            &block[before..to]
+        }
+        Record::Match(size, address) => {
+            let from = format::index(address);
+            let to = from + format::index(size);
+            &store[from..to]
+        }
+    }
+}
+
+// The stored bytes up to the end of a record, where so many come before it.
+fn stored_after(item: Record, before: usize) -> usize
+    requires { ⌜ before + stored (item ∷ []) < 18446744073709551616 ⌝ }
+    ensures { λ r. ⌜ r ≡ before + stored (item ∷ []) ⌝ }
+{
+    match item {
+        Record::New(size) => before + format::index(size),
+        Record::Match(_, _) => before,
+    }
+}
+
+// The stored bytes before record k.
+fn stored_before(list: &[u8], k: usize) -> usize
+    requires { ⌜ (k ≤ length (recordsOf (now list))) × (stored (recordsOf (now list)) ≤ 16777216) ⌝ }
+    ensures { λ r. ⌜ r ≡ stored (take k (recordsOf (now (list .entry)))) ⌝ }
+{
+    let mut sum = 0;
+    let mut i = 0;
+    while i < k {
+        let item = format::record_of(format::row_at(list, i));
+        sum = stored_after(item, sum);
+        i += 1;
+    }
+    sum
+}
+
+// Show: the part of the stored block, or of the store, that record k stands for; the block's first 0 bytes where check refuses.
+pub fn show<'a>(list: &[u8], block: &'a [u8], store: &'a [u8], k: u32) -> &'a [u8]
+    ensures { λ r. ⌜ whereOf r ≡ shown (now (list .entry)) (block .entry) (store .entry) k ⌝ }
+{
+    let answer = check(list, block, store, k);
+    let Answer::Accepted(_figures) = answer else {
+        return &block[0..0];
+    };
+    let i = format::index(k);
+    let item = format::record_of(format::row_at(list, i));
+    part_of(item, stored_before(list, i), block, store)
+}
+
+// Copies what each record stands for, one after the other.
+fn fill<'a>(list: &[u8], block: &'a [u8], store: &'a [u8], area: &mut [u8])
+    requires { ⌜ Ready (now list) (now block) (now store) (now area) ⌝ }
+    ensures { λ _. ⌜ now (area .exit) ≡ filled (now (list .entry)) (now (block .entry)) (now (store .entry)) (now (area .entry)) ⌝ }
+{
+    let n = list.len() / 12;
+    let mut used = 0;
+    let mut out = 0;
+    let mut i = 0;
+    while i < n {
+        let item = format::record_of(format::row_at(list, i));
+        let part = part_of(item, used, block, store);
+        area::put(area, out, part);
+        out += part.len();
+        used = stored_after(item, used);
+        i += 1;
+    }
+}
+
+// Rebuild: the version's bytes, from the list, its stored block and the store.
+pub fn rebuild<'a>(list: &[u8], block: &'a [u8], store: &'a [u8], area: &mut [u8]) -> Answer
+    ensures { λ r. ⌜ Rebuilt (now (list .entry)) (now (block .entry)) (now (store .entry)) (now (area .entry)) r (now (area .exit)) ⌝ }
+{
+    let w = accept(list, block, store);
+    let Walked::Through(t) = w else {
+        return Answer::Refused(walk::refusal_of(w));
+    };
+    if area.len() < format::index(t.whole) {
+        return format::refused(Fault::AreaTooShort);
+    }
+    fill(list, block, store, area);
+    accepted(t.whole)
+}
