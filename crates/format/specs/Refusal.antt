@@ -25,6 +25,7 @@ number AreaTooShort = 9
 number BlockLength = 10
 number NoSuchRecord = 11
 
+-- of a refusal: a fault, and the record concerned, or 0
 abbrev pub refuse : Fault → ℕ → Refusal
 refuse f p = record { fault = f; place = p }
 

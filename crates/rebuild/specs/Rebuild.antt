@@ -45,10 +45,16 @@ rebuildRuling list block st area = inputsRuling list block st then need (leb (wh
 abbrev pub filled : List ℕ → List ℕ → List ℕ → List ℕ → List ℕ
 filled list block st area = over (rebuilt (recordsOf list) block st) area
 
--- the answer, and the area after the call
+abbrev pub rebuildAnswer : List ℕ → List ℕ → List ℕ → List ℕ → Answer
+rebuildAnswer list block st area = answer (rebuildRuling list block st area) (lengthOnly (whole (recordsOf list)))
+
+abbrev pub rebuildArea : List ℕ → List ℕ → List ℕ → List ℕ → List ℕ
+rebuildArea list block st area = written (rebuildRuling list block st area) (filled list block st area) area
+
+-- the answer r, and the area after the call
 pub record Rebuilt (list block st area : List ℕ) (r : Answer) (after : List ℕ) : Type 0 where
-  pub answered : r ≡ answer (rebuildRuling list block st area) (lengthOnly (whole (recordsOf list)))
-  pub area-after : after ≡ written (rebuildRuling list block st area) (filled list block st area) area
+  pub answered : r ≡ rebuildAnswer list block st area
+  pub area-after : after ≡ rebuildArea list block st area
 
 -- what the copying asks: matches in the store, the block as long as the new sizes, and room
 pub record Ready (list block st area : List ℕ) : Type 0 where

@@ -1,0 +1,25 @@
+-- `controller::check` meets its contract. Assumes nothing.
+use native.Mathlib.Omega.{arith}
+use mathlib.Core.Path.{_≡_, sym, _∙_}
+use Rattle.controller.proofs.Answering.{answered-short, answered-given}
+use borrow.Author.Needs.{needs}
+use Rattle.controller.proofs.check.Statement.{statement}
+use Rattle.controller.proofs.check.Tie as tie
+
+returns : tie.Need-returns
+returns c = answered-short _ (c .before .before .before .before .before .args .answer .now) (c .if1 .taken)
+
+check-requires : tie.Need-check-requires
+check-requires c κs = search needs
+
+give-requires : tie.Need-give-requires
+give-requires c κs = search needs
+
+same-length : tie.Need-same-length
+same-length c = search needs
+
+returns-2 : tie.Need-returns-2
+returns-2 c = answered-given _ (c .before .before .before .before .check .result) (c .before .before .before .before .before .before .before .before .before .before .args .answer .now) (c .before .before .give .result) _ (c .before .before .before .before .before .if1 .left) (c .before .before .before .before .check .ensures) (c .before .before .give .ensures .0) (c .before .before .give .ensures .1)
+
+pub check-spec : {M : Type 1} → statement M
+check-spec = tie.close (tie.spec returns check-requires give-requires same-length returns-2)
