@@ -1,0 +1,137 @@
+-- The cost of a choice's list is a path's cost; so the least choice is the path that `pick` picks, and a list partitioned once stays as it is.
+-- Assumes nothing.
+use Prim.Native.Nat.{ℕ, zero, suc, _+_, _*_, _≤_, _<_}
+use native.Mathlib.Omega.{arith}
+use native.Mathlib.Nat.{add-assoc}
+use mathlib.Core.Path.{_≡_, refl, sym, _∙_, ap}
+use mathlib.Core.Bool.{Bool, true, false}
+use mathlib.Core.Logic.{_⊎_, inl, inr}
+use mathlib.Core.List.{List, [], _∷_, _++_}
+use lib.ListN.{length}
+use Rattle.format.specs.declared.Record.{Record}
+use Rattle.format.specs.declared.Record.the-variants.{New, Match}
+use Rattle.format.specs.Meaning.{sizeOf, stored}
+use Rattle.price.specs.Price.{cost}
+use Rattle.choice.specs.Choice.{Bit, keep, store, Free, only, either, freedom, May, IsChoice, choices, fuse, join, chosenRecord, listOf, costOf, firstOf, firstMin, least}
+use Rattle.choice.proofs.Path.{Beats, walk, best, pick, first, walk-pick, pick-is-first, pick-fits, pick-beats, best-least, pick-first, first-fits, choices-cong, le-beats}
+
+abbrev pub after : Record → Bit → Bit
+after r b = b
+
+-- what a record adds to the cost, by the bit before it and its own
+abbrev pub step : ℕ → Bit → Record → Bit → ℕ
+step price s r keep = price
+step price keep r store = price + sizeOf r
+step price store r store = sizeOf r
+
+pub fuse-fuse : (s t : ℕ) (l : List Record) → fuse s (fuse t l) ≡ fuse (s + t) l
+fuse-fuse s t [] = refl
+fuse-fuse s t (New u ∷ l) = ap (λ (n : ℕ). New n ∷ l) (sym (add-assoc s t u))
+fuse-fuse s t (Match u a ∷ l) = refl
+
+pub keep-store : {A : Type 0} → keep ≡ store → A
+keep-store e = absurd (let z : _≡_ {A = ℕ} 0 1 = cc in omega arith)
+
+module _ (price : ℕ) where
+  abbrev Spent : List Record → List Bit → Type 0
+  Spent rs c = (cost price (listOf rs c) ≡ walk after (step price) rs keep c) × ((t : ℕ) → cost price (fuse t (listOf rs c)) ≡ price + t + walk after (step price) rs store c)
+
+  stores : (r : Record) (rs : List Record) (c : List Bit) → Spent rs c → Spent (r ∷ rs) (store ∷ c)
+  stores r rs c ih = (omega (arith, ih .1 (sizeOf r)), λ t. rw fuse-fuse (omega (arith, ih .1 (t + sizeOf r))))
+
+  pub spent : (rs : List Record) (c : List Bit) → IsChoice rs c → Spent rs c
+  spent [] [] h = (omega arith, λ t. omega arith)
+  spent [] (b ∷ c) h = absurd h
+  spent (r ∷ rs) [] h = absurd h
+  spent (New s ∷ rs) (keep ∷ c) h = keep-store (h .0)
+  spent (New s ∷ rs) (store ∷ c) h = stores (New s) rs c (spent rs c (h .1))
+  spent (Match s a ∷ rs) (keep ∷ c) h = keeps (spent rs c (h .1))
+    where
+      keeps : Spent rs c → Spent (Match s a ∷ rs) (keep ∷ c)
+      keeps ih = (omega (arith, ih .0), λ t. omega (arith, ih .0))
+  spent (Match s a ∷ rs) (store ∷ c) h = stores (Match s a) rs c (spent rs c (h .1))
+
+  pub least-pick : (rs : List Record) → least price rs ≡ pick after (step price) rs keep
+  least-pick rs = choices-cong (costOf price rs) (walk after (step price) rs keep) rs (λ c h. spent rs c h .0) ∙ pick-is-first after (step price) rs keep
+
+  pub least-fits : (rs : List Record) → IsChoice rs (least price rs)
+  least-fits rs = rw least-pick (pick-fits after (step price) rs keep)
+
+  pub least-cost : (rs : List Record) → costOf price rs (least price rs) ≡ best after (step price) rs keep
+  least-cost rs = spent rs (least price rs) (least-fits rs) .0 ∙ rw least-pick (walk-pick after (step price) rs keep)
+
+  -- the least choice against any other: it costs less, or as much and has 0 at the first record where they differ
+  pub least-beats : (rs : List Record) (c : List Bit) → IsChoice rs c → Beats (costOf price rs (least price rs)) (least price rs) (costOf price rs c) c
+  least-beats rs c h = rw (least-cost rs, least-pick rs, spent rs c h .0) (pick-beats after (step price) rs keep c h)
+
+-- ---- a list partitioned once
+
+-- a choice of the list of a choice, as a choice of the list handed in
+abbrev Lifted : List Record → List Record → Type 0
+Lifted rs l = (d : List Bit) → IsChoice l d → (e : List Bit) × IsChoice rs e × (listOf rs e ≡ listOf l d)
+
+lift-store : (r : Record) (rs l : List Record) → May (freedom r) store → Lifted rs l → Lifted (r ∷ rs) (fuse (sizeOf r) l)
+lift-store r rs l m f = go l f
+  where
+    s : ℕ
+    s = sizeOf r
+
+    go : (l : List Record) → Lifted rs l → Lifted (r ∷ rs) (fuse s l)
+    go [] f [] k = absurd k
+    go [] f (keep ∷ d) k = keep-store (k .0)
+    go [] f (store ∷ []) k = let (e, h, q) = f [] tt in (store ∷ e, (m, h), ap (fuse s) q)
+    go [] f (store ∷ b ∷ d) k = absurd (k .1)
+    go (New t ∷ l) f [] k = absurd k
+    go (New t ∷ l) f (keep ∷ d) k = keep-store (k .0)
+    go (New t ∷ l) f (store ∷ d) k = let (e, h, q) = f (store ∷ d) k in (store ∷ e, (m, h), ap (fuse s) q ∙ fuse-fuse s t (listOf l d))
+    go (Match t a ∷ l) f [] k = absurd k
+    go (Match t a ∷ l) f (keep ∷ d) k = keep-store (k .0)
+    go (Match t a ∷ l) f (store ∷ d) k = let (e, h, q) = f d (k .1) in (store ∷ e, (m, h), ap (fuse s) q)
+
+lift : (rs : List Record) (c : List Bit) → IsChoice rs c → Lifted rs (listOf rs c)
+lift [] c h [] k = ([], tt, refl)
+lift [] c h (b ∷ d) k = absurd k
+lift (r ∷ rs) [] h d k = absurd h
+lift (New s ∷ rs) (keep ∷ c) h d k = keep-store (h .0)
+lift (New s ∷ rs) (store ∷ c) h d k = lift-store (New s) rs (listOf rs c) refl (lift rs c (h .1)) d k
+lift (Match s a ∷ rs) (keep ∷ c) h [] k = absurd k
+lift (Match s a ∷ rs) (keep ∷ c) h (b ∷ d) k = let (e, f, q) = lift rs c (h .1) d (k .1) in (b ∷ e, (tt, f), ap (join (chosenRecord b (Match s a))) q)
+lift (Match s a ∷ rs) (store ∷ c) h d k = lift-store (Match s a) rs (listOf rs c) tt (lift rs c (h .1)) d k
+
+first-fuse : (s : ℕ) (l : List Record) → listOf l (first l) ≡ l → listOf (fuse s l) (first (fuse s l)) ≡ fuse s l
+first-fuse s [] e = refl
+first-fuse s (New t ∷ l) e = sym (fuse-fuse s t (listOf l (first l))) ∙ ap (fuse s) e
+first-fuse s (Match t a ∷ l) e = ap (fuse s) e
+
+-- the list of a choice is the list of its own foremost choice
+first-list : (rs : List Record) (c : List Bit) → IsChoice rs c → listOf (listOf rs c) (first (listOf rs c)) ≡ listOf rs c
+first-list [] c h = refl
+first-list (r ∷ rs) [] h = absurd h
+first-list (New s ∷ rs) (keep ∷ c) h = keep-store (h .0)
+first-list (New s ∷ rs) (store ∷ c) h = first-fuse s (listOf rs c) (first-list rs c (h .1))
+first-list (Match s a ∷ rs) (keep ∷ c) h = ap (λ (l : List Record). Match s a ∷ l) (first-list rs c (h .1))
+first-list (Match s a ∷ rs) (store ∷ c) h = first-fuse s (listOf rs c) (first-list rs c (h .1))
+
+pub again : (price : ℕ) (rs : List Record) → least price (listOf rs (least price rs)) ≡ first (listOf rs (least price rs))
+again price rs = least-pick price l ∙ pick-first after (step price) l keep (omega (arith, cheap, met, led, walk-pick after (step price) l keep))
+  where
+    l : List Record
+    l = listOf rs (least price rs)
+
+    p : List Bit
+    p = pick after (step price) l keep
+
+    up : (e : List Bit) × IsChoice rs e × (listOf rs e ≡ listOf l p)
+    up = lift rs (least price rs) (least-fits price rs) p (pick-fits after (step price) l keep)
+
+    cheap : cost price l ≤ cost price (listOf rs (up .0))
+    cheap = le-beats (least-beats price rs (up .0) (up .1))
+
+    met : cost price (listOf rs (up .0)) ≡ walk after (step price) l keep p
+    met = ap (cost price) (up .2) ∙ spent price l p (pick-fits after (step price) l keep) .0
+
+    led : cost price l ≡ walk after (step price) l keep (first l)
+    led = sym (ap (cost price) (first-list rs (least price rs) (least-fits price rs))) ∙ spent price l (first l) (first-fits l) .0
+
+pub again-list : (price : ℕ) (rs : List Record) → listOf (listOf rs (least price rs)) (least price (listOf rs (least price rs))) ≡ listOf rs (least price rs)
+again-list price rs = rw again (first-list rs (least price rs) (least-fits price rs))

@@ -1,0 +1,124 @@
+-- Document 01, "A choice": the choices for a list, the list of a choice, and the least choice.
+-- Assumes nothing.
+use Prim.Native.Nat.{ℕ, _+_}
+use mathlib.Core.Path.{_≡_}
+use mathlib.Core.Bool.{Bool, true, false, cond}
+use mathlib.Core.List.{List, [], _∷_, _++_}
+use lib.Dec.{eqb, leb}
+use Rattle.format.specs.declared.Record.{Record}
+use Rattle.format.specs.declared.Record.the-variants.{New, Match}
+use Rattle.format.specs.Meaning.{sizeOf}
+use Rattle.price.specs.Price.{cost}
+
+-- 0: kept as match; 1: new
+pub data Bit : Type 0 where
+  keep store : Bit
+
+abbrev pub bitByte : Bit → ℕ
+bitByte keep = 0
+bitByte store = 1
+
+abbrev pub bitBytes : List Bit → List ℕ
+bitBytes [] = []
+bitBytes (b ∷ c) = bitByte b ∷ bitBytes c
+
+abbrev pub bitOf : ℕ → Bit
+bitOf n = cond (eqb n 0) keep store
+
+-- what a record leaves to choose
+pub data Free : Type 0 where
+  only : Bit → Free
+  either : Free
+
+-- a new record always has 1
+abbrev pub freedom : Record → Free
+freedom (New s) = only store
+freedom (Match s a) = either
+
+abbrev pub May : Free → Bit → Type 0
+May (only b) d = d ≡ b
+May either d = Unit {0}
+
+-- c is a choice for the records: one bit for each, and one that it may have
+abbrev pub IsChoice : List Record → List Bit → Type 0
+IsChoice [] [] = Unit {0}
+IsChoice [] (b ∷ c) = ⊥
+IsChoice (r ∷ rs) [] = ⊥
+IsChoice (r ∷ rs) (b ∷ c) = May (freedom r) b × IsChoice rs c
+
+abbrev pub put : Bit → List (List Bit) → List (List Bit)
+put b [] = []
+put b (c ∷ cs) = (b ∷ c) ∷ put b cs
+
+abbrev pub spread : Free → List (List Bit) → List (List Bit)
+spread (only b) cs = put b cs
+spread either cs = put keep cs ++ put store cs
+
+-- all choices, in the order in which 0 at the first record where two differ goes first
+abbrev pub choices : List Record → List (List Bit)
+choices [] = [] ∷ []
+choices (r ∷ rs) = spread (freedom r) (choices rs)
+
+-- c is d, or has 0 at the first record where they differ
+abbrev pub Early : List Bit → List Bit → Type 0
+Early [] [] = Unit {0}
+Early [] (b ∷ d) = ⊥
+Early (b ∷ c) [] = ⊥
+Early (keep ∷ c) (keep ∷ d) = Early c d
+Early (keep ∷ c) (store ∷ d) = Unit {0}
+Early (store ∷ c) (keep ∷ d) = ⊥
+Early (store ∷ c) (store ∷ d) = Early c d
+
+-- a record by its bit: a stored match becomes a new record
+abbrev pub chosenRecord : Bit → Record → Record
+chosenRecord keep r = r
+chosenRecord store r = New (sizeOf r)
+
+abbrev pub chosen : List Record → List Bit → List Record
+chosen [] c = []
+chosen (r ∷ rs) [] = []
+chosen (r ∷ rs) (b ∷ c) = chosenRecord b r ∷ chosen rs c
+
+-- s new bytes before a list: a new record at its head takes them in
+abbrev pub fuse : ℕ → List Record → List Record
+fuse s [] = New s ∷ []
+fuse s (New t ∷ l) = New (s + t) ∷ l
+fuse s (Match t a ∷ l) = New s ∷ Match t a ∷ l
+
+-- a record before a list; matches that follow each other in the store still take one entry each
+abbrev pub join : Record → List Record → List Record
+join (New s) l = fuse s l
+join (Match s a) l = Match s a ∷ l
+
+-- each longest run of new records becomes one
+abbrev pub tidy : List Record → List Record
+tidy [] = []
+tidy (r ∷ l) = join r (tidy l)
+
+-- the list of a choice
+abbrev pub listOf : List Record → List Bit → List Record
+listOf rs c = tidy (chosen rs c)
+
+abbrev pub costOf : ℕ → List Record → List Bit → ℕ
+costOf p rs c = cost p (listOf rs c)
+
+-- of two, the one of lower value; the first where the values are equal
+abbrev pub lower : Bool → List Bit → List Bit → List Bit
+lower true c d = c
+lower false c d = d
+
+abbrev pub low : (List Bit → ℕ) → List Bit → List Bit → List Bit
+low f c d = lower (leb (f c) (f d)) c d
+
+-- of several, the first of least value
+abbrev pub firstMin : (List Bit → ℕ) → List Bit → List (List Bit) → List Bit
+firstMin f c [] = c
+firstMin f c (d ∷ cs) = low f c (firstMin f d cs)
+
+abbrev pub firstOf : (List Bit → ℕ) → List (List Bit) → List Bit
+firstOf f [] = []
+firstOf f (c ∷ cs) = firstMin f c cs
+
+-- the least choice: of all choices in order, the first whose list costs least, at the price p of an entry
+abbrev pub least : ℕ → List Record → List Bit
+least p rs = firstOf (costOf p rs) (choices rs)

@@ -1,0 +1,30 @@
+-- Sheets A to J of document 01, for P = 10, as one table: the list, the least choice, its cost.
+-- Assumes nothing.
+use Prim.Native.Nat.{ℕ}
+use mathlib.Core.List.{List, [], _∷_}
+use Rattle.format.specs.declared.Record.{Record}
+use Rattle.format.specs.declared.Record.the-variants.{New, Match}
+use Rattle.choice.specs.Choice.{Bit, keep, store}
+
+pub record Sheet : Type 0 where
+  pub list : List Record
+  pub choice : List Bit
+  pub cost : ℕ
+
+abbrev pub sheet : List Record → List Bit → ℕ → Sheet
+sheet l c n = record { list = l; choice = c; cost = n }
+
+-- no match goes on in the store where the one before it ended
+abbrev pub sheets : List Sheet
+sheets =
+    sheet [] [] 0
+    ∷ sheet (Match 1 0 ∷ []) (keep ∷ []) 10
+    ∷ sheet (New 5 ∷ Match 19 0 ∷ New 5 ∷ []) (store ∷ store ∷ store ∷ []) 39
+    ∷ sheet (New 5 ∷ Match 20 0 ∷ New 5 ∷ []) (store ∷ keep ∷ store ∷ []) 40
+    ∷ sheet (New 5 ∷ Match 19 0 ∷ Match 19 50 ∷ New 5 ∷ []) (store ∷ keep ∷ keep ∷ store ∷ []) 50
+    ∷ sheet (New 1 ∷ Match 9 0 ∷ []) (store ∷ store ∷ []) 20
+    ∷ sheet (New 1 ∷ Match 10 0 ∷ []) (store ∷ keep ∷ []) 21
+    ∷ sheet (Match 4 0 ∷ Match 4 50 ∷ Match 4 90 ∷ []) (store ∷ store ∷ store ∷ []) 22
+    ∷ sheet (Match 6 0 ∷ Match 6 50 ∷ Match 6 90 ∷ []) (store ∷ store ∷ store ∷ []) 28
+    ∷ sheet (Match 10 0 ∷ Match 4 50 ∷ Match 4 90 ∷ []) (keep ∷ store ∷ store ∷ []) 28
+    ∷ []

@@ -1,0 +1,27 @@
+// What a choice makes of a record, and whether two neighbouring records become one.
+ghost use mathlib.Core.Path.{_≡_};
+ghost use Prim.Native.Nat.{_+_, _<_};
+ghost use Rattle.format.specs.Meaning.{sizeOf};
+ghost use Rattle.choice.specs.Choice.{bitOf, chosenRecord};
+
+use format::Record;
+
+// The bytes that a record covers.
+pub fn size_of(item: Record) -> u32
+    ensures { λ r. ⌜ r ≡ sizeOf item ⌝ }
+{
+    match item {
+        Record::New(size) => size,
+        Record::Match(size, _) => size,
+    }
+}
+
+// A record by its choice byte: a stored match becomes a new record.
+pub fn chosen(item: Record, bit: u8) -> Record
+    ensures { λ r. ⌜ r ≡ chosenRecord (bitOf bit) item ⌝ }
+{
+    if bit == 0 {
+        return item;
+    }
+    Record::New(size_of(item))
+}

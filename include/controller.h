@@ -1,0 +1,131 @@
+/* controller.h - the calls of the deposit box for a controller in C.
+ *
+ * Scope: the lists of document 01 ("The list"): what they measure, whether they are sound, the version they rebuild. Numbers and byte
+ * areas go in; nothing is allocated, nothing is kept between calls, and every call returns on any input. Link with libcontroller.a.
+ *
+ * AREAS. An area is a pointer and its length in bytes. A length of 0 goes with any pointer that is not NULL. No area that is lent for
+ * writing may share a byte with another area of the same call.
+ *
+ * THE ANSWER AREA. Its first 32 bytes are written by every call, accepted or refused; bytes beyond them are unchanged. What a call does
+ * not give is 0. Numbers are unsigned, lowest byte first:
+ *
+ *   OFFSET  SIZE  FIELD
+ *   0       4     number: 0 accepted, else why it was refused (below)
+ *   4       4     place: the record concerned, counted from 0; 0 where no record is
+ *   8       8     cost, in disk bytes
+ *   16      4     entries: records of the list
+ *   20      4     stored bytes: the sizes of new records together
+ *   24      4     looks
+ *   28      4     whole length: all sizes together
+ *
+ * An answer area under 32 bytes: 9 is returned before any other check, and nothing is written anywhere.
+ *
+ * ON REFUSAL the answer area holds number and place, and no other area changes.
+ *
+ * THE LIST: 0 to 4,096 records of 12 bytes, in the order of the version. Two new records never stand next to each other.
+ *
+ *   OFFSET  SIZE  FIELD
+ *   0       1     kind: 0 new, 1 match
+ *   1       3     zero
+ *   4       4     size: bytes covered, 1 or more, lowest byte first
+ *   8       4     address: where a match begins in the store; zero in a new record
+ *
+ * THE NUMBERS, by their cause:
+ *
+ *   whoever sets up the box
+ *    1  E or F outside its range (E 1 to 255, F 1 to 65,535)
+ *   the calling program
+ *    2  the store is over 268,435,456 bytes
+ *    9  an area too short
+ *   11  there is no record k
+ *   the finder of matches
+ *    3  the list's length is no multiple of 12, or over 49,152
+ *    4  a record of other kind, with a nonzero byte 1 to 3, of size 0, or a new record with an address
+ *    5  a new record right after a new one
+ *    6  the sizes pass 16,777,216 at this record
+ *    7  a match runs beyond the store
+ *   the disk
+ *   10  the stored block is not as long as the new sizes together
+ */
+#ifndef CONTROLLER_H
+#define CONTROLLER_H
+
+#include <stddef.h>
+#include <stdint.h>
+
+#ifdef __cplusplus
+extern "C" {
+#endif
+
+/* The least answer area. */
+#define ANSWER_BYTES 32
+
+/* Bytes of one record, and the most records of a list. */
+#define RECORD_BYTES 12
+#define RECORDS_MOST 4096
+
+/* The longest version and the longest store. */
+#define VERSION_MOST 16777216
+#define STORE_MOST 268435456
+
+enum {
+    ACCEPTED = 0,
+    BAD_PRICE = 1,
+    TOO_LONG = 2,
+    BAD_LIST_LENGTH = 3,
+    MALFORMED_RECORD = 4,
+    ADJACENT_NEW_RECORDS = 5,
+    BAD_SIZES = 6,
+    OUTSIDE_STORE = 7,
+    MISMATCH = 8,
+    AREA_TOO_SHORT = 9,
+    BAD_BLOCK_LENGTH = 10,
+    NO_SUCH_RECORD = 11
+};
+
+/* measure - what a list costs.
+ *
+ * Does: adds up a list: its records, the sizes of its new records, all its sizes, and its cost at the price of E index bytes for an
+ *   entry and F disk bytes for an index byte: F * E * entries + stored bytes.
+ * Areas: list.
+ * Writes: answer (cost, entries, stored bytes, whole length).
+ * Refuses, in this order: 1 at 0; 3 at 0; then record by record 4, 5, 6 at the record.
+ * On refusal: answer holds number and place.
+ * Returns: the number. */
+uint32_t measure(uint32_t e, uint32_t f,
+                 const uint8_t *list, size_t list_len,
+                 uint8_t *answer, size_t answer_len);
+
+/* rebuild - the version that a list stands for.
+ *
+ * Does: goes through the records, and copies the next bytes of the stored block for a new record, the store's bytes for a match.
+ * Areas: list; block, the stored block; store; area, at least as long as the whole length.
+ * Writes: the first bytes of area, as many as the whole length; bytes beyond are unchanged. answer (whole length).
+ * Refuses, in this order: 2 at 0; 3 at 0; record by record 4, 5, 6, 7 at the record; 10 at 0; 9 at 0.
+ * On refusal: answer holds number and place; area is unchanged.
+ * Returns: the number. */
+uint32_t rebuild(const uint8_t *list, size_t list_len,
+                 const uint8_t *block, size_t block_len,
+                 const uint8_t *store, size_t store_len,
+                 uint8_t *area, size_t area_len,
+                 uint8_t *answer, size_t answer_len);
+
+/* check - whether a list, its stored block and the store are sound, and have a record k.
+ *
+ * Does: makes rebuild's checks, but for the area's; then asks that k, counted from 0, is below the number of records.
+ * Areas: list; block, the stored block; store.
+ * Writes: answer (nothing but number and place).
+ * Refuses, in this order: 2 at 0; 3 at 0; record by record 4, 5, 6, 7 at the record; 10 at 0; 11 at 0.
+ * On refusal: answer holds number and place.
+ * Returns: the number. */
+uint32_t check(const uint8_t *list, size_t list_len,
+               const uint8_t *block, size_t block_len,
+               const uint8_t *store, size_t store_len,
+               uint32_t k,
+               uint8_t *answer, size_t answer_len);
+
+#ifdef __cplusplus
+}
+#endif
+
+#endif
