@@ -1,0 +1,116 @@
+-- Laws of the two sweeps: each record's turn is the path's, and what the sweep from the front makes of the hints is the least choice.
+-- Assumes nothing.
+use Prim.Native.Nat.{ℕ, zero, suc, _+_, _*_, _-_, _/_, _%_, _≤_, _<_}
+use native.Mathlib.Omega.{arith}
+use native.Mathlib.Numerals.{add-one}
+use mathlib.Core.Path.{_≡_, refl, sym, _∙_, ap}
+use mathlib.Core.List.{List, [], _∷_, _++_, append-assoc}
+use borrow.Author.Tests.{le-leb, lt-leb}
+use lib.ListN.{length, getD, take, drop, set}
+use lib.Seq.{take-suc, set-at, length-take-le, drop-cons, take-suc-set, drop-set-lt, append-snoc}
+use Rattle.format.specs.declared.Record.{Record}
+use Rattle.format.specs.Record.{rowAt, recordOf, recordsOf}
+use Rattle.format.specs.Meaning.{sizeOf}
+use Rattle.format.proofs.Rows.{recordsFrom, recordsFrom-next, recordsFrom-none, recordsFrom-all, length-recordsOf}
+use Rattle.area.specs.Area.{over}
+use Rattle.choice.specs.Choice.{Bit, keep, store, bitByte, bitBytes, only, either, freedom, least}
+use Rattle.choice.proofs.Path.{pickBit, follow, follow-pick}
+use Rattle.choice.proofs.Least.{after, step, least-pick, least-cost, least-fits}
+use Rattle.choice.proofs.Lists.{length-bits, length-choice}
+use Rattle.sweep.specs.declared.Turn.{Turn}
+use Rattle.sweep.specs.Sweep.{hintByte, hintBytes, turned, bestOf, hintsOf, nextBit, forwards, Back, LeastIn}
+
+
+abbrev made : ℕ → ℕ → ℕ → Turn
+made k h b = record { kept = k; stored = h; hint = b }
+
+-- the turn that the code makes, by its tests
+module _ (price : ℕ) (r : Record) (kept held w : ℕ) (e : w ≡ sizeOf r) where
+  pub turned-only : freedom r ≡ only store → made (price + w + held) (w + held) 3 ≡ turned price r kept held
+  turned-only f = rw (← e, f)
+
+  pub turned-keep : freedom r ≡ either → price + kept ≤ price + w + held → price + kept ≤ w + held → made (price + kept) (price + kept) 0 ≡ turned price r kept held
+  turned-keep f h k = rw (← e, f, le-leb _ _ h, le-leb _ _ k)
+
+  pub turned-join : freedom r ≡ either → price + kept ≤ price + w + held → w + held < price + kept → made (price + kept) (w + held) 2 ≡ turned price r kept held
+  turned-join f h k = rw (← e, f, le-leb _ _ h, lt-leb _ _ k)
+
+  pub turned-store : freedom r ≡ either → price + w + held < price + kept → made (price + w + held) (w + held) 3 ≡ turned price r kept held
+  turned-store f h =
+      let k : w + held < price + kept = omega arith in
+      rw (← e, f, lt-leb _ _ h, lt-leb _ _ k)
+
+pub records-end : (list : List ℕ) (n : ℕ) → recordsFrom list n n ≡ []
+records-end list n = recordsFrom-none list n n (omega arith)
+
+pub records-back : (list : List ℕ) (n i : ℕ) → 0 < i → i ≤ n → recordsFrom list n (i - 1) ≡ recordOf (rowAt list (i - 1)) ∷ recordsFrom list n i
+records-back list n i h k =
+    let e : i - 1 + 1 ≡ i = omega arith in
+    recordsFrom-next list n (i - 1) (omega arith) ∙ ap (λ (j : ℕ). recordOf (rowAt list (i - 1)) ∷ recordsFrom list n j) e
+
+pub back-turn : (price : ℕ) (list : List ℕ) (n i kept held : ℕ) → 0 < i → i ≤ n → kept ≡ bestOf price (recordsFrom list n i) keep → held ≡ bestOf price (recordsFrom list n i) store
+    → (t : Turn) → t ≡ turned price (recordOf (rowAt list (i - 1))) kept held
+    → (t .kept ≡ bestOf price (recordsFrom list n (i - 1)) keep) × (t .stored ≡ bestOf price (recordsFrom list n (i - 1)) store)
+      × (t .hint ∷ hintBytes (hintsOf price (recordsFrom list n i)) ≡ hintBytes (hintsOf price (recordsFrom list n (i - 1))))
+back-turn price list n i kept held h k ek eh t e = rw (e, ek, eh, records-back list n i h k) (refl, refl, refl)
+
+pub set-back : (c e : List ℕ) (i x : ℕ) → 0 < i → i ≤ length c → set (take i c ++ e) (i - 1) x ≡ take (i - 1) c ++ (x ∷ e)
+set-back c e i x h k =
+    let s : i ≡ suc (i - 1) = omega arith in
+    let l : i - 1 < length c = omega arith in
+    ap (λ (j : ℕ). set (take j c ++ e) (i - 1) x) s
+    ∙ ap (λ (p : List ℕ). set (p ++ e) (i - 1) x) (take-suc c (i - 1) 0 l)
+    ∙ ap (λ (p : List ℕ). set p (i - 1) x) (append-assoc (take (i - 1) c) (getD c (i - 1) 0 ∷ []) e)
+    ∙ set-at (take (i - 1) c) (getD c (i - 1) 0) e x (i - 1) (length-take-le (i - 1) c (omega arith))
+
+pub forth-turn : (c : List ℕ) (n i b x : ℕ) → i < n → n ≤ length c → x ≡ nextBit b (getD c i 0)
+    → take i c ++ forwards (n - i) b (drop i c) ≡ take (i + 1) (set c i x) ++ forwards (n - (i + 1)) x (drop (i + 1) (set c i x))
+forth-turn c n i b x h k e =
+    let s : n - i ≡ suc (n - (i + 1)) = omega arith in
+    let l : i < length c = omega arith in
+    let d : drop i c ≡ getD c i 0 ∷ drop (suc i) c = drop-cons c i 0 l in
+    rw (s, d, ← e, add-one i, take-suc-set c i x l, drop-set-lt (suc i) c i x (omega arith), append-snoc)
+
+next-pick : (b : Bit) (h : Bit × Bit) → nextBit (bitByte b) (hintByte h) ≡ bitByte (pickBit b h)
+next-pick b h = go b (h .0) (h .1)
+  where
+    go : (b x y : Bit) → nextBit (bitByte b) (bitByte x + 2 * bitByte y) ≡ bitByte (pickBit b (x, y))
+    go keep keep keep = refl
+    go keep keep store = refl
+    go keep store keep = refl
+    go keep store store = refl
+    go store keep keep = refl
+    go store keep store = refl
+    go store store keep = refl
+    go store store store = refl
+
+pub forwards-follow : (b : Bit) (hs : List (Bit × Bit)) (t : List ℕ) → forwards (length hs) (bitByte b) (hintBytes hs ++ t) ≡ bitBytes (follow b hs) ++ t
+forwards-follow b [] t = refl
+forwards-follow b (h ∷ hs) t = rw (next-pick b h) (ap (λ (l : List ℕ). bitByte (pickBit b h) ∷ l) (forwards-follow (pickBit b h) hs t))
+
+length-hints : (price : ℕ) (rs : List Record) → length (hintsOf price rs) ≡ length rs
+length-hints price [] = refl
+length-hints price (r ∷ rs) = ap suc (length-hints price rs)
+
+-- the sweep from the front over what the sweep from the rear left is the least choice
+pub forwards-least : (price : ℕ) (list t : List ℕ) → let n = length list / 12 in
+    forwards n 0 (hintBytes (hintsOf price (recordsFrom list n 0)) ++ t) ≡ bitBytes (least price (recordsOf list)) ++ t
+forwards-least price list t =
+    let rs = recordsOf list in
+    let e : length list / 12 ≡ length (hintsOf price rs) = sym (length-hints price rs ∙ length-recordsOf list) in
+    rw (← recordsFrom-all list)
+    (ap (λ (m : ℕ). forwards m 0 (hintBytes (hintsOf price rs) ++ t)) e
+    ∙ forwards-follow keep (hintsOf price rs) t
+    ∙ ap (λ (c : List Bit). bitBytes c ++ t) (follow-pick after (step price) (λ b. b) rs keep ∙ sym (least-pick price rs)))
+
+-- what both sweeps leave
+pub least-in : (price : ℕ) (list before middle after : List ℕ) (r : ℕ) → Back price list (length list / 12) before middle r → after ≡ forwards (length list / 12) 0 middle → LeastIn price list before after r
+least-in price list before middle after r b e =
+    let n : length (bitBytes (least price (recordsOf list))) ≡ length list / 12 =
+    length-bits (least price (recordsOf list)) ∙ length-choice (recordsOf list) (least price (recordsOf list)) (least-fits price (recordsOf list)) ∙ length-recordsOf list in
+    record {
+      area =
+          e ∙ ap (forwards (length list / 12) 0) (b .area) ∙ forwards-least price list (drop (length list / 12) before)
+          ∙ ap (λ (k : ℕ). bitBytes (least price (recordsOf list)) ++ drop k before) (sym n);
+      cost-is = b .least-cost ∙ ap (λ (x : List Record). bestOf price x keep) (sym (recordsFrom-all list)) ∙ sym (least-cost price (recordsOf list));
+    }

@@ -1,0 +1,434 @@
+/* reference.c - the five calls of document 01 a second time, in plain C.
+ *
+ * In order: limits; reading and writing of fields; the checks of the inputs; measure, rebuild and check; the least choice;
+ * the pass; what partition and pass write. It shares no line with the library and takes nothing from its header.
+ */
+#include "reference.h"
+
+#include <string.h>
+
+/* ---- Limits, in bytes and records ---- */
+
+enum { ANSWER_LEAST = 32, RECORD = 12, MOST_RECORDS = 4096 };
+enum { LONGEST_LIST = RECORD * MOST_RECORDS, LONGEST_VERSION = 16777216, LONGEST_STORE = 268435456 };
+
+/* ---- Fields ---- */
+
+/* The kinds of a record; a mark of the pass is of neither kind. */
+enum { NEW = 0, MATCH = 1, MARK = 2 };
+
+static uint32_t get32(const uint8_t *b)
+{
+    return (uint32_t)b[0] | (uint32_t)b[1] << 8 | (uint32_t)b[2] << 16 | (uint32_t)b[3] << 24;
+}
+
+static void put32(uint8_t *b, uint32_t v)
+{
+    b[0] = (uint8_t)v;
+    b[1] = (uint8_t)(v >> 8);
+    b[2] = (uint8_t)(v >> 16);
+    b[3] = (uint8_t)(v >> 24);
+}
+
+static uint32_t size_of(const uint8_t *list, size_t i)
+{
+    return get32(list + RECORD * i + 4);
+}
+
+static uint32_t address_of(const uint8_t *list, size_t i)
+{
+    return get32(list + RECORD * i + 8);
+}
+
+/* What goes into the answer area. */
+struct answer {
+    uint32_t number, place;
+    uint64_t cost;
+    uint32_t entries, stored, looks, whole;
+};
+
+static uint32_t give(const struct answer *a, uint8_t *area)
+{
+    put32(area, a->number);
+    put32(area + 4, a->place);
+    put32(area + 8, (uint32_t)a->cost);
+    put32(area + 12, (uint32_t)(a->cost >> 32));
+    put32(area + 16, a->entries);
+    put32(area + 20, a->stored);
+    put32(area + 24, a->looks);
+    put32(area + 28, a->whole);
+    return a->number;
+}
+
+static struct answer refused(uint32_t number, size_t place)
+{
+    struct answer a = {0};
+    a.number = number;
+    a.place = (uint32_t)place;
+    return a;
+}
+
+/* ---- The checks of the inputs ---- */
+
+/* What a call reads; measure has neither version nor store, rebuild and check have no version. */
+struct inputs {
+    const uint8_t *list, *version, *store;
+    size_t list_len, version_len, store_len;
+    int has_version, has_store;
+};
+
+/* Number 1. */
+static int bad_price(uint32_t e, uint32_t f)
+{
+    return e < 1 || e > 255 || f < 1 || f > 65535;
+}
+
+/* Numbers 2 and 3, or 0. */
+static uint32_t bad_length(const struct inputs *in)
+{
+    if (in->has_version && in->version_len > LONGEST_VERSION)
+        return 2;
+    if (in->has_store && in->store_len > LONGEST_STORE)
+        return 2;
+    if (in->list_len % RECORD != 0 || in->list_len > LONGEST_LIST)
+        return 3;
+    return 0;
+}
+
+/* Number 4. */
+static int malformed(const uint8_t *r)
+{
+    if (r[0] != NEW && r[0] != MATCH)
+        return 1;
+    if ((r[1] | r[2] | r[3]) != 0 || get32(r + 4) == 0)
+        return 1;
+    return r[0] == NEW && get32(r + 8) != 0;
+}
+
+/* Numbers 4 to 8 for record i, or 0; whole is its offset, which is at most limit. */
+static uint32_t bad_record(const struct inputs *in, size_t i, uint64_t whole, uint64_t limit)
+{
+    const uint8_t *r = in->list + RECORD * i;
+    if (malformed(r))
+        return 4;
+    if (r[0] == NEW && i > 0 && r[-RECORD] == NEW)
+        return 5;
+    const uint64_t size = get32(r + 4), address = get32(r + 8);
+    if (size > limit - whole)
+        return 6;
+    if (r[0] == NEW || !in->has_store)
+        return 0;
+    if (address + size > in->store_len)
+        return 7;
+    if (in->has_version && memcmp(in->version + whole, in->store + address, size) != 0)
+        return 8;
+    return 0;
+}
+
+/* Goes through the records: the refusal, or the entries, stored bytes and whole length. */
+static struct answer walk(const struct inputs *in)
+{
+    const size_t n = in->list_len / RECORD;
+    const uint64_t limit = in->has_version ? in->version_len : LONGEST_VERSION;
+    uint64_t whole = 0, stored = 0;
+    for (size_t i = 0; i < n; i++) {
+        const uint32_t number = bad_record(in, i, whole, limit);
+        if (number != 0)
+            return refused(number, i);
+        whole += size_of(in->list, i);
+        if (in->list[RECORD * i] == NEW)
+            stored += size_of(in->list, i);
+    }
+    if (in->has_version && whole != in->version_len)
+        return refused(6, n);
+    struct answer a = {0};
+    a.entries = (uint32_t)n;
+    a.stored = (uint32_t)stored;
+    a.whole = (uint32_t)whole;
+    return a;
+}
+
+/* ---- Measure, rebuild and check ---- */
+
+uint32_t ref_measure(uint32_t e, uint32_t f,
+                     const uint8_t *list, size_t list_len,
+                     uint8_t *answer, size_t answer_len)
+{
+    if (answer_len < ANSWER_LEAST)
+        return 9;
+    const struct inputs in = { .list = list, .list_len = list_len };
+    const uint32_t fault = bad_price(e, f) ? 1 : bad_length(&in);
+    struct answer a = fault != 0 ? refused(fault, 0) : walk(&in);
+    if (a.number == 0)
+        a.cost = (uint64_t)e * f * a.entries + a.stored;
+    return give(&a, answer);
+}
+
+/* The walk of rebuild and check, 10 included. */
+static struct answer walk_with_block(const struct inputs *in, size_t block_len)
+{
+    const uint32_t fault = bad_length(in);
+    if (fault != 0)
+        return refused(fault, 0);
+    const struct answer a = walk(in);
+    if (a.number == 0 && block_len != a.stored)
+        return refused(10, 0);
+    return a;
+}
+
+/* Copies the next stored bytes for a new record, the store's bytes for a match. */
+static void copy_version(const struct inputs *in, const uint8_t *block, uint8_t *area)
+{
+    const size_t n = in->list_len / RECORD;
+    for (size_t i = 0; i < n; i++) {
+        const uint32_t size = size_of(in->list, i);
+        if (in->list[RECORD * i] == NEW) {
+            memcpy(area, block, size);
+            block += size;
+        } else {
+            memcpy(area, in->store + address_of(in->list, i), size);
+        }
+        area += size;
+    }
+}
+
+uint32_t ref_rebuild(const uint8_t *list, size_t list_len,
+                     const uint8_t *block, size_t block_len,
+                     const uint8_t *store, size_t store_len,
+                     uint8_t *area, size_t area_len,
+                     uint8_t *answer, size_t answer_len)
+{
+    if (answer_len < ANSWER_LEAST)
+        return 9;
+    const struct inputs in = { .list = list, .list_len = list_len,
+                               .store = store, .store_len = store_len, .has_store = 1 };
+    struct answer a = walk_with_block(&in, block_len);
+    if (a.number == 0 && area_len < a.whole)
+        a = refused(9, 0);
+    if (a.number == 0) {
+        copy_version(&in, block, area);
+        a.entries = 0;
+        a.stored = 0;
+    }
+    return give(&a, answer);
+}
+
+uint32_t ref_check(const uint8_t *list, size_t list_len,
+                   const uint8_t *block, size_t block_len,
+                   const uint8_t *store, size_t store_len,
+                   uint32_t k,
+                   uint8_t *answer, size_t answer_len)
+{
+    (void)block;
+    if (answer_len < ANSWER_LEAST)
+        return 9;
+    const struct inputs in = { .list = list, .list_len = list_len,
+                               .store = store, .store_len = store_len, .has_store = 1 };
+    struct answer a = walk_with_block(&in, block_len);
+    if (a.number == 0)
+        a = refused(k < a.entries ? 0 : 11, 0);
+    return give(&a, answer);
+}
+
+/* ---- The least choice ---- */
+
+/* The least cost of the records from i on, where the one before i is kept (or is none), and where it is new. */
+static uint64_t after_kept[MOST_RECORDS + 1], after_new[MOST_RECORDS + 1];
+
+static uint64_t lesser(uint64_t a, uint64_t b)
+{
+    return a < b ? a : b;
+}
+
+/* Fills both rows from the rear. */
+static void fill_costs(const uint8_t *list, size_t n, uint64_t price)
+{
+    after_kept[n] = 0;
+    after_new[n] = 0;
+    for (size_t i = n; i-- > 0;) {
+        const uint64_t joined = size_of(list, i) + after_new[i + 1];
+        const uint64_t kept = price + after_kept[i + 1];
+        const int is_new = list[RECORD * i] == NEW;
+        after_new[i] = is_new ? joined : lesser(kept, joined);
+        after_kept[i] = is_new ? price + joined : lesser(kept, price + joined);
+    }
+}
+
+/* Chooses forwards; a match is stored only where that costs less. */
+static void choose_least(const uint8_t *list, size_t n, uint64_t price, uint8_t *choice)
+{
+    fill_costs(list, n, price);
+    uint64_t entry = price;
+    for (size_t i = 0; i < n; i++) {
+        const uint64_t joined = entry + size_of(list, i) + after_new[i + 1];
+        const uint64_t kept = price + after_kept[i + 1];
+        choice[i] = list[RECORD * i] == NEW || joined < kept;
+        entry = choice[i] ? 0 : price;
+    }
+}
+
+/* ---- The pass ---- */
+
+/* The list of the pass, doubly linked: 0 is the front mark, 1 to n the records, n + 1 the rear mark. */
+static uint8_t kind[MOST_RECORDS + 2];
+static uint32_t size[MOST_RECORDS + 2];
+static uint16_t before[MOST_RECORDS + 2], after[MOST_RECORDS + 2];
+
+static void link_records(const uint8_t *list, size_t n)
+{
+    for (size_t i = 0; i <= n + 1; i++) {
+        const int mark = i == 0 || i == n + 1;
+        kind[i] = mark ? MARK : list[RECORD * (i - 1)];
+        size[i] = mark ? 0 : size_of(list, i - 1);
+        before[i] = (uint16_t)(i == 0 ? 0 : i - 1);
+        after[i] = (uint16_t)(i + 1);
+    }
+}
+
+/* Makes p and the one after it one new record, which stands at p. */
+static void fuse_after(uint16_t p)
+{
+    const uint16_t q = after[p];
+    kind[p] = NEW;
+    size[p] += size[q];
+    after[p] = after[q];
+    before[after[q]] = p;
+}
+
+/* One look at p: where p goes. */
+static uint16_t look(uint16_t p, uint32_t price)
+{
+    const uint16_t b = before[p], a = after[p];
+    if (kind[p] != MATCH)
+        return a;
+    if (kind[b] == NEW && kind[a] == NEW && size[p] < 2 * price) {
+        fuse_after(p);
+        fuse_after(b);
+        return after[b];
+    }
+    if (kind[b] == NEW && size[p] < price) {
+        fuse_after(b);
+        return a;
+    }
+    if (kind[a] == NEW && size[p] < price) {
+        fuse_after(p);
+        return b;
+    }
+    if (kind[a] == MATCH && kind[b] != NEW && kind[after[a]] != NEW && size[p] + size[a] < price) {
+        fuse_after(p);
+        return b;
+    }
+    return a;
+}
+
+/* Looks until p is the rear, then reads the choice off the list; the number of looks. */
+static uint32_t choose_by_pass(const uint8_t *list, size_t n, uint32_t price, uint8_t *choice)
+{
+    const uint16_t rear = (uint16_t)(n + 1);
+    uint32_t looks = 0;
+    link_records(list, n);
+    for (uint16_t p = 1; p != rear; looks++)
+        p = look(p, price);
+    for (uint16_t p = after[0]; p != rear; p = after[p])
+        memset(choice + (p - 1), kind[p] == NEW, (size_t)(after[p] - p));
+    return looks;
+}
+
+/* ---- What partition and pass write ---- */
+
+/* What partition and pass are lent. */
+struct job {
+    struct inputs in;
+    uint32_t e, f;
+    uint8_t *choice, *list_area, *block_area;
+    size_t choice_len, list_area_len, block_area_len;
+};
+
+/* The refusal of a job; else number 0. */
+static struct answer judge(const struct job *job)
+{
+    const struct inputs *in = &job->in;
+    const uint32_t fault = bad_price(job->e, job->f) ? 1 : bad_length(in);
+    if (fault != 0)
+        return refused(fault, 0);
+    if (job->choice_len < in->list_len / RECORD || job->list_area_len < in->list_len ||
+        job->block_area_len < in->version_len)
+        return refused(9, 0);
+    return walk(in);
+}
+
+/* The sizes of the run of 1s that begins at *i, together; *i goes to its end. */
+static uint32_t run_size(const struct job *job, size_t n, size_t *i)
+{
+    uint32_t run = 0;
+    for (; *i < n && job->choice[*i]; ++*i)
+        run += size_of(job->in.list, *i);
+    return run;
+}
+
+/* Writes the choice's list and stored block; the answer carries its entries, stored bytes and cost. */
+static struct answer write_choice(const struct job *job)
+{
+    const size_t n = job->in.list_len / RECORD;
+    const uint8_t *from = job->in.version;
+    uint8_t *out = job->list_area;
+    struct answer a = {0};
+    for (size_t i = 0; i < n; out += RECORD, a.entries++) {
+        if (!job->choice[i]) {
+            memcpy(out, job->in.list + RECORD * i, RECORD);
+            from += size_of(job->in.list, i++);
+            continue;
+        }
+        const uint32_t run = run_size(job, n, &i);
+        memset(out, 0, RECORD);
+        put32(out + 4, run);
+        memcpy(job->block_area + a.stored, from, run);
+        from += run;
+        a.stored += run;
+    }
+    a.cost = (uint64_t)job->e * job->f * a.entries + a.stored;
+    return a;
+}
+
+uint32_t ref_partition(uint32_t e, uint32_t f,
+                       const uint8_t *list, size_t list_len,
+                       const uint8_t *version, size_t version_len,
+                       const uint8_t *store, size_t store_len,
+                       uint8_t *choice, size_t choice_len,
+                       uint8_t *list_area, size_t list_area_len,
+                       uint8_t *block_area, size_t block_area_len,
+                       uint8_t *answer, size_t answer_len)
+{
+    if (answer_len < ANSWER_LEAST)
+        return 9;
+    const struct job job = { { list, version, store, list_len, version_len, store_len, 1, 1 }, e, f,
+                             choice, list_area, block_area, choice_len, list_area_len, block_area_len };
+    struct answer a = judge(&job);
+    if (a.number == 0) {
+        choose_least(list, list_len / RECORD, (uint64_t)e * f, choice);
+        a = write_choice(&job);
+    }
+    return give(&a, answer);
+}
+
+uint32_t ref_pass(uint32_t e, uint32_t f,
+                  const uint8_t *list, size_t list_len,
+                  const uint8_t *version, size_t version_len,
+                  const uint8_t *store, size_t store_len,
+                  uint8_t *choice, size_t choice_len,
+                  uint8_t *list_area, size_t list_area_len,
+                  uint8_t *block_area, size_t block_area_len,
+                  uint8_t *answer, size_t answer_len)
+{
+    if (answer_len < ANSWER_LEAST)
+        return 9;
+    const struct job job = { { list, version, store, list_len, version_len, store_len, 1, 1 }, e, f,
+                             choice, list_area, block_area, choice_len, list_area_len, block_area_len };
+    struct answer a = judge(&job);
+    if (a.number == 0) {
+        const uint32_t looks = choose_by_pass(list, list_len / RECORD, e * f, choice);
+        a = write_choice(&job);
+        a.looks = looks;
+    }
+    return give(&a, answer);
+}

@@ -1,0 +1,52 @@
+/* reference.h - the five calls of document 01 a second time, in plain C.
+ *
+ * Scope: what the differential test compares the library with, and what the benchmark takes for its baseline. The calls have
+ * the signatures of controller.h, with the prefix ref_; areas, answer area, numbers and their order are those of document 01.
+ * A length of 0 goes with any pointer, NULL too. Not here: two calls at once, since the working rows are static.
+ */
+#ifndef REFERENCE_H
+#define REFERENCE_H
+
+#include <stddef.h>
+#include <stdint.h>
+
+/* What a list costs. */
+uint32_t ref_measure(uint32_t e, uint32_t f,
+                     const uint8_t *list, size_t list_len,
+                     uint8_t *answer, size_t answer_len);
+
+/* The version that a list stands for. */
+uint32_t ref_rebuild(const uint8_t *list, size_t list_len,
+                     const uint8_t *block, size_t block_len,
+                     const uint8_t *store, size_t store_len,
+                     uint8_t *area, size_t area_len,
+                     uint8_t *answer, size_t answer_len);
+
+/* Whether a list, its stored block and the store are sound, and have a record k. */
+uint32_t ref_check(const uint8_t *list, size_t list_len,
+                   const uint8_t *block, size_t block_len,
+                   const uint8_t *store, size_t store_len,
+                   uint32_t k,
+                   uint8_t *answer, size_t answer_len);
+
+/* The least choice, its list and its stored block. */
+uint32_t ref_partition(uint32_t e, uint32_t f,
+                       const uint8_t *list, size_t list_len,
+                       const uint8_t *version, size_t version_len,
+                       const uint8_t *store, size_t store_len,
+                       uint8_t *choice, size_t choice_len,
+                       uint8_t *list_area, size_t list_area_len,
+                       uint8_t *block_area, size_t block_area_len,
+                       uint8_t *answer, size_t answer_len);
+
+/* The pass's choice, its list and its stored block. */
+uint32_t ref_pass(uint32_t e, uint32_t f,
+                  const uint8_t *list, size_t list_len,
+                  const uint8_t *version, size_t version_len,
+                  const uint8_t *store, size_t store_len,
+                  uint8_t *choice, size_t choice_len,
+                  uint8_t *list_area, size_t list_area_len,
+                  uint8_t *block_area, size_t block_area_len,
+                  uint8_t *answer, size_t answer_len);
+
+#endif
