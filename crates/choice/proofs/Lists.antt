@@ -6,14 +6,15 @@ use native.Mathlib.Nat.{add-assoc}
 use native.Mathlib.Numerals.{add-one}
 use mathlib.Core.Path.{_≡_, refl, sym, _∙_, ap}
 use mathlib.Core.List.{List, [], _∷_, _++_, append-assoc}
-use lib.ListN.{length, getD, take, drop, length-drop}
+use lib.ListN.{length, take, drop, length-drop}
 use lib.Seq.{drop-drop, take-add}
 use Rattle.format.specs.declared.Record.{Record}
 use Rattle.format.specs.declared.Record.the-variants.{New, Match}
 use Rattle.format.specs.Record.{from}
 use Rattle.format.specs.Meaning.{sizeOf, whole, stored, blockOf}
+use Rattle.format.proofs.Encoding.{from-shift}
 use Rattle.format.specs.WellFormed.{Sized, NotNew, Apart, Agrees, WellFormed}
-use Rattle.choice.specs.Choice.{Bit, keep, store, bitByte, bitBytes, bitOf, IsChoice, fuse, join, chosenRecord, listOf}
+use Rattle.choice.specs.Choice.{Bit, keep, store, bitByte, bitBytes, bitAt, bitsOf, IsChoice, fuse, join, chosenRecord, listOf}
 use Rattle.choice.proofs.Least.{keep-store}
 
 pub length-bits : (c : List Bit) → length (bitBytes c) ≡ length c
@@ -28,14 +29,6 @@ length-choice (r ∷ rs) (b ∷ c) h = ap suc (length-choice rs c (h .1))
 
 -- ---- the bits of a choice area
 
--- the bits in the first bytes of an area, from i on
-abbrev pub bitAt : List ℕ → ℕ → Bit
-bitAt c i = bitOf (getD c i 0)
-
-from-shift : {A : Type 0} (f g : ℕ → A) → ((i : ℕ) → f (i + 1) ≡ g i) → (i m : ℕ) → from f (i + 1) m ≡ from g i m
-from-shift f g e i zero = refl
-from-shift f g e i (suc m) = rw (e i, from-shift f g e (i + 1) m)
-
 bit-byte : (b : Bit) (l : List ℕ) → bitAt (bitByte b ∷ l) 0 ≡ b
 bit-byte keep l = refl
 bit-byte store l = refl
@@ -43,7 +36,7 @@ bit-byte store l = refl
 bit-shift : (x : ℕ) (l : List ℕ) (i : ℕ) → bitAt (x ∷ l) (i + 1) ≡ bitAt l i
 bit-shift x l i = rw add-one
 
-pub bits-back : (c : List Bit) (t : List ℕ) → from (bitAt (bitBytes c ++ t)) 0 (length c) ≡ c
+pub bits-back : (c : List Bit) (t : List ℕ) → bitsOf (length c) (bitBytes c ++ t) ≡ c
 bits-back [] t = refl
 bits-back (b ∷ c) t =
     rw (bit-byte b (bitBytes c ++ t))
@@ -68,7 +61,7 @@ whole-join (New s) (New t ∷ l) = add-assoc s t (whole l)
 whole-join (New s) (Match t a ∷ l) = refl
 whole-join (Match s a) l = refl
 
-size-chosen : (b : Bit) (r : Record) → sizeOf (chosenRecord b r) ≡ sizeOf r
+pub size-chosen : (b : Bit) (r : Record) → sizeOf (chosenRecord b r) ≡ sizeOf r
 size-chosen keep r = refl
 size-chosen store r = refl
 

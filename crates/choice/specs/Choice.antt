@@ -5,8 +5,10 @@ use mathlib.Core.Path.{_≡_}
 use mathlib.Core.Bool.{Bool, true, false, cond}
 use mathlib.Core.List.{List, [], _∷_, _++_}
 use lib.Dec.{eqb, leb}
+use lib.ListN.{getD}
 use Rattle.format.specs.declared.Record.{Record}
 use Rattle.format.specs.declared.Record.the-variants.{New, Match}
+use Rattle.format.specs.Record.{from}
 use Rattle.format.specs.Meaning.{sizeOf}
 use Rattle.price.specs.Price.{cost}
 
@@ -24,6 +26,13 @@ bitBytes (b ∷ c) = bitByte b ∷ bitBytes c
 
 abbrev pub bitOf : ℕ → Bit
 bitOf n = cond (eqb n 0) keep store
+
+-- the bits in the first n bytes of a choice area
+abbrev pub bitAt : List ℕ → ℕ → Bit
+bitAt area i = bitOf (getD area i 0)
+
+abbrev pub bitsOf : ℕ → List ℕ → List Bit
+bitsOf n area = from (bitAt area) 0 n
 
 -- what a record leaves to choose
 pub data Free : Type 0 where

@@ -1,3 +1,4 @@
 pub mod Rulings
 pub mod Rows
 pub mod Rebuilding
+pub mod Encoding

@@ -5,7 +5,7 @@ use native.Mathlib.Omega.{arith}
 use native.Mathlib.Nat.{div-add-mod, add-zero, add-assoc}
 use native.Mathlib.Numerals.{add-one}
 use mathlib.Core.Path.{_≡_, refl, sym, _∙_, ap}
-use mathlib.Core.Bool.{Bool, true, false, cond}
+use mathlib.Core.Bool.{Bool, true, false, not, _&&_, _||_, cond}
 use mathlib.Core.List.{List, [], _∷_}
 use lib.Dec.{eqb, leb}
 use lib.ListN.{length, take, getD}
@@ -13,7 +13,7 @@ use borrow.Author.Tests.{leb-true, eqb-true}
 use Rattle.format.specs.declared.Row.{Row}
 use Rattle.format.specs.declared.Record.{Record}
 use Rattle.format.specs.declared.Record.the-variants.{New, Match}
-use Rattle.format.specs.Record.{from, rowAt, isNew, recordOf, records, recordsOf, listFits}
+use Rattle.format.specs.Record.{from, rowAt, isNew, recordOf, records, recordsOf, wellFormed, listFits}
 use Rattle.format.specs.Limits.{listMost}
 use Rattle.format.specs.Meaning.{sizeOf, whole, stored}
 use Rattle.format.proofs.Rulings.{both-of-and}
@@ -111,3 +111,32 @@ counted-of-fits l h =
     let m : length l ≤ listMost = leb-true (length l) listMost (k .0) in
     let w : length l ≡ 12 * (length l / 12) = omega (arith, div-add-mod (length l) 12, eqb-true (length l % 12) 0 (k .1)) in
     record { list-most = m; whole-records = omega (arith, length-recordsOf l); count-most = omega (arith, length-recordsOf l) }
+
+-- a row that passes check 4
+pub record Formed (r : Row) : Type 0 where
+  pub kind-most : r .kind ≤ 1
+  pub second-zero : r .second ≡ 0
+  pub third-zero : r .third ≡ 0
+  pub fourth-zero : r .fourth ≡ 0
+  pub size-least : 1 ≤ r .size
+  pub no-address : isNew r ≡ true → r .address ≡ 0
+
+pub formed-of-test : (r : Row) → wellFormed r ≡ true → Formed r
+formed-of-test r e =
+    let k : Bool = leb (r .kind) 1 in
+    let s : Bool = eqb (r .second) 0 in
+    let t : Bool = eqb (r .third) 0 in
+    let f : Bool = eqb (r .fourth) 0 in
+    let a = both-of-and (k && s && t && f && leb 1 (r .size)) (not (isNew r) || eqb (r .address) 0) e in
+    let b = both-of-and (k && s && t && f) (leb 1 (r .size)) (a .0) in
+    let c = both-of-and (k && s && t) f (b .0) in
+    let d = both-of-and (k && s) t (c .0) in
+    let g = both-of-and k s (d .0) in
+    record {
+      kind-most = leb-true (r .kind) 1 (g .0);
+      second-zero = eqb-true (r .second) 0 (g .1);
+      third-zero = eqb-true (r .third) 0 (d .1);
+      fourth-zero = eqb-true (r .fourth) 0 (c .1);
+      size-least = leb-true 1 (r .size) (b .1);
+      no-address = λ n. eqb-true (r .address) 0 (rw n at (a .1));
+    }

@@ -18,8 +18,8 @@ use Rattle.format.specs.Record.{isNew, recordOf, records, wellFormed}
 use Rattle.format.specs.Refusal.{need, _then_}
 use Rattle.format.specs.Meaning.{sizeOf, whole}
 use Rattle.format.specs.WellFormed.{Sized, NotNew, Apart, Inside, Agrees}
-use Rattle.format.proofs.Rulings.{fine-of-then, then-of-fine, both-of-and}
-use Rattle.format.proofs.Rows.{size-record}
+use Rattle.format.proofs.Rulings.{fine-of-then, then-of-fine}
+use Rattle.format.proofs.Rows.{size-record, formed-of-test}
 use Rattle.walk.specs.declared.Seen.{Seen}
 use Rattle.walk.specs.Checks.{Check, four, five, six, seven, eight, sameBytes, within, judged, next, walkOn}
 use Rattle.walk.proofs.Equality.{eq-of-same}
@@ -74,14 +74,9 @@ fine-of-each cs s (r ∷ rs) h =
 
 -- ---- check by check
 
-size-of-formed : (r : Row) → wellFormed r ≡ true → 1 ≤ r .size
-size-of-formed r e =
-    let a = both-of-and (leb (r .kind) 1 && eqb (r .second) 0 && eqb (r .third) 0 && eqb (r .fourth) 0 && leb 1 (r .size)) (not (isNew r) || eqb (r .address) 0) e in
-    leb-true 1 (r .size) (both-of-and (leb (r .kind) 1 && eqb (r .second) 0 && eqb (r .third) 0 && eqb (r .fourth) 0) (leb 1 (r .size)) (a .0) .1)
-
 pub sized-of-four : (s : Seen) (rs : List Row) → Holds four s rs → Sized (records rs)
 sized-of-four s [] h = tt
-sized-of-four s (r ∷ rs) h = (omega (arith, size-record r, size-of-formed r (h .0)), sized-of-four (next s r) rs (h .1))
+sized-of-four s (r ∷ rs) h = (omega (arith, size-record r, formed-of-test r (h .0) .size-least), sized-of-four (next s r) rs (h .1))
 
 pub apart-of-five : (s : Seen) (rs : List Row) → Holds five s rs → Apart (records rs) × (s .after ≡ true → NotNew (records rs))
 apart-of-five s [] h = (tt, λ e. tt)

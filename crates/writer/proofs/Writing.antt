@@ -1,0 +1,199 @@
+-- Writing record by record: before record i, what is written stands in the area, and the open record with the rest of the choice's list is
+-- what is to come; likewise for the stored block.
+-- Assumes nothing.
+use Prim.Native.Nat.{ℕ, _+_, _*_, _-_, _/_, _≤_, _<_}
+use native.Mathlib.Omega.{arith}
+use mathlib.Core.Path.{_≡_, refl, sym, _∙_, ap}
+use mathlib.Core.List.{List, [], _∷_, _++_, append-nil}
+use lib.ListN.{length, take, drop, length-append, length-drop}
+use lib.Seq.{drop-drop, length-take-le}
+use Rattle.format.specs.declared.Record.{Record}
+use Rattle.format.specs.declared.Record.the-variants.{New, Match}
+use Rattle.format.specs.Limits.{versionMost}
+use Rattle.format.specs.Record.{from, rowAt, recordOf, records, recordsOf, bytesOf, encode}
+use Rattle.format.specs.Meaning.{sizeOf, whole, blockOf}
+use Rattle.format.proofs.Rows.{recordsFrom, recordsFrom-next, recordsFrom-none, recordsFrom-all, from-next, from-none}
+use Rattle.format.proofs.Encoding.{encode-append, length-bytes}
+use Rattle.area.specs.Area.{pasted, over}
+use Rattle.area.proofs.Pasting.{pasted-none}
+use Rattle.area.proofs.Filling.{Filling, filling-start, filling-put, filling-end, filling-out, filling-room}
+use Rattle.choice.specs.Choice.{Bit, keep, store, bitAt, bitsOf, fuse, join, tidy, chosen, chosenRecord}
+use Rattle.choice.proofs.Lists.{size-chosen, block-fuse}
+use Rattle.choice.proofs.Least.{fuse-fuse}
+use Rattle.writer.specs.declared.Open.{Open}
+use Rattle.writer.specs.declared.Open.the-variants.{No, One}
+use Rattle.writer.specs.Write.{listIn, blockIn, jointOf, pending, openSize, flushed, opened, Emits, ListReady, ListWritten, BlockReady, BlockWritten}
+
+-- the list of the choice from record i on, of n
+abbrev pub listFrom : List ℕ → List ℕ → ℕ → ℕ → List Record
+listFrom list choice n i = tidy (chosen (recordsFrom list n i) (from (bitAt choice) i (n - i)))
+
+listFrom-all : (list choice : List ℕ) → listIn list choice ≡ listFrom list choice (length list / 12) 0
+listFrom-all list choice =
+    let e : length list / 12 ≡ length list / 12 - 0 = omega arith in
+    ap (λ (m : ℕ). tidy (chosen (records (from (rowAt list) 0 m)) (from (bitAt choice) 0 m))) e
+
+-- the open record before a list
+abbrev pub held : Open → List Record → List Record
+held No l = l
+held (One r) l = join r l
+
+held-none : (o : Open) → held o [] ≡ pending o
+held-none No = refl
+held-none (One (New s)) = refl
+held-none (One (Match s a)) = refl
+
+held-join : (o : Open) (r : Record) (l : List Record) → held o (join r l) ≡ flushed o r ++ held (opened o r) l
+held-join No r l = refl
+held-join (One (New s)) (New t) l = fuse-fuse s t l
+held-join (One (New s)) (Match t a) l = refl
+held-join (One (Match s a)) r l = refl
+
+open-size : (o : Open) (r : Record) → openSize (opened o r) ≤ openSize o + sizeOf r
+open-size No r = omega arith
+open-size (One (New s)) (New t) = omega arith
+open-size (One (New s)) (Match t a) = omega arith
+open-size (One (Match s a)) r = omega arith
+
+block-join : (r : Record) (l : List Record) (v : List ℕ) → blockOf (join r l) v ≡ blockOf (r ∷ l) v
+block-join (New s) l v = block-fuse s l v
+block-join (Match s a) l v = refl
+
+-- ---- one record taken in: none is open, the two join, or the open one is written
+module _ (area : List ℕ) (out : ℕ) (o : Open) (r : Record) where
+  pub emits-first : o ≡ No → Emits area out o r (record { out = out; last = One r }) area
+  emits-first e = rw e (record { out-is = omega arith; last-is = refl; area-after = pasted-none out area })
+
+  module _ (q : Record) (e : o ≡ One q) (j : Open) (i : j ≡ jointOf q r) where
+    pub emits-joint : (b : Record) → j ≡ One b → Emits area out o r (record { out = out; last = j }) area
+    emits-joint b k =
+        let m : jointOf q r ≡ One b = sym i ∙ k in
+        let w : encode (flushed o r) ≡ [] = rw (e, m) in
+        let v : opened o r ≡ One b = rw (e, m) in
+        record { out-is = rw w (omega arith); last-is = k ∙ sym v; area-after = rw w (pasted-none out area) }
+
+    module _ (k : j ≡ No) where
+      one : flushed o r ≡ q ∷ []
+      one = let m : jointOf q r ≡ No = sym i ∙ k in rw (e, m)
+
+      pub emits-room : out + length (encode (flushed o r)) ≤ length area → out + 12 ≤ length area
+      emits-room h = let m : length (encode (flushed o r)) ≡ 12 = ap (λ (l : List Record). length (encode l)) one ∙ rw (append-nil (bytesOf q)) (length-bytes q) in omega arith
+
+      pub emits-written : (after : List ℕ) → after ≡ pasted out (bytesOf q) area → Emits area out o r (record { out = out + 12; last = One r }) after
+      emits-written after f =
+          let m : jointOf q r ≡ No = sym i ∙ k in
+          let w : encode (flushed o r) ≡ bytesOf q = ap encode one ∙ append-nil (bytesOf q) in
+          record { out-is = rw (w, length-bytes q); last-is = rw (e, m); area-after = rw w f }
+
+module _ (list choice : List ℕ) (n i : ℕ) (r : Record) (is : r ≡ chosenRecord (bitAt choice i) (recordOf (rowAt list i))) (h : i < n) where
+  list-split : listFrom list choice n i ≡ join r (listFrom list choice n (i + 1))
+  list-split = rw (recordsFrom-next list n i h, from-next (bitAt choice) i n h, ← is)
+
+  whole-split : whole (recordsFrom list n i) ≡ sizeOf r + whole (recordsFrom list n (i + 1))
+  whole-split =
+      ap whole (recordsFrom-next list n i h)
+      ∙ ap (λ (k : ℕ). k + whole (recordsFrom list n (i + 1))) (sym (ap sizeOf is ∙ size-chosen (bitAt choice i) (recordOf (rowAt list i))))
+
+-- ---- the list
+
+pub record Listing (list choice area₀ area : List ℕ) (n i out : ℕ) (o : Open) : Type 0 where
+  pub filling : Filling (encode (listIn list choice)) area₀ area out (encode (held o (listFrom list choice n i)))
+  pub sizes : openSize o + whole (recordsFrom list n i) ≤ versionMost
+
+module _ (list choice area₀ : List ℕ) (ready : ListReady list choice area₀) where
+  pub listing-start : Listing list choice area₀ area₀ (length list / 12) 0 0 No
+  listing-start =
+      record {
+        filling = rw (← listFrom-all list choice) (filling-start (encode (listIn list choice)) area₀);
+        sizes = omega (arith, ready .whole-most, ap whole (recordsFrom-all list));
+      }
+
+  module _ (area : List ℕ) (n i out : ℕ) (o : Open) (g : Listing list choice area₀ area n i out o) where
+    -- r is record i by its choice byte
+    module _ (r : Record) (is : r ≡ chosenRecord (bitAt choice i) (recordOf (rowAt list i))) (h : i < n) where
+      to-come : Filling (encode (listIn list choice)) area₀ area out (encode (flushed o r) ++ encode (held (opened o r) (listFrom list choice n (i + 1))))
+      to-come =
+          rw (list-split list choice n i r is h, held-join o r (listFrom list choice n (i + 1)), encode-append (flushed o r) (held (opened o r) (listFrom list choice n (i + 1)))) at (g .filling)
+
+      pub listing-room : out + length (encode (flushed o r)) ≤ length area
+      listing-room = omega (arith, filling-room to-come (ready .room), length-append (encode (flushed o r)) (encode (held (opened o r) (listFrom list choice n (i + 1)))))
+
+      pub listing-size : openSize o + sizeOf r ≤ versionMost
+      listing-size = omega (arith, g .sizes, whole-split list choice n i r is h)
+
+      pub listing-next : (area′ : List ℕ) (out′ : ℕ) (o′ : Open) → area′ ≡ pasted out (encode (flushed o r)) area → out′ ≡ out + length (encode (flushed o r)) → o′ ≡ opened o r
+          → Listing list choice area₀ area′ n (i + 1) out′ o′
+      listing-next area′ out′ o′ e f k =
+          record {
+            filling = rw k (filling-put (encode (flushed o r)) (encode (held (opened o r) (listFrom list choice n (i + 1)))) to-come (ready .room) area′ out′ e f);
+            sizes = omega (arith, g .sizes, whole-split list choice n i r is h, open-size o r, ap openSize k);
+          }
+
+    module _ (h : n ≤ i) where
+      last : Filling (encode (listIn list choice)) area₀ area out (encode (pending o) ++ [])
+      last = rw (append-nil (encode (pending o)), ← held-none o) (rw (ended) at (g .filling))
+        where
+          ended : listFrom list choice n i ≡ []
+          ended = rw (recordsFrom-none list n i h)
+
+      pub listing-last : out + length (encode (pending o)) ≤ length area
+      listing-last = omega (arith, filling-room last (ready .room), length-append (encode (pending o)) [])
+
+      pub listing-end : (area′ : List ℕ) (out′ : ℕ) → area′ ≡ pasted out (encode (pending o)) area → out′ ≡ out + length (encode (pending o)) → ListWritten list choice area₀ area′ out′
+      listing-end area′ out′ e f =
+          let done = filling-put (encode (pending o)) [] last (ready .room) area′ out′ e f in
+          record { area-after = filling-end done; length-is = filling-out done }
+
+-- ---- the stored block
+
+pub record Storing (list choice v block₀ block : List ℕ) (n i at out : ℕ) : Type 0 where
+  pub filling : Filling (blockIn list choice v) block₀ block out (blockOf (listFrom list choice n i) (drop at v))
+  pub sizes : at + whole (recordsFrom list n i) ≤ length v
+
+module _ (list choice v block₀ : List ℕ) (ready : BlockReady list choice v block₀) where
+  pub storing-start : Storing list choice v block₀ block₀ (length list / 12) 0 0 0
+  storing-start =
+      record {
+        filling = rw (← listFrom-all list choice) (filling-start (blockIn list choice v) block₀);
+        sizes = omega (arith, ready .in-version, ap whole (recordsFrom-all list));
+      }
+
+  module _ (block : List ℕ) (n i at out : ℕ) (g : Storing list choice v block₀ block n i at out) where
+    pub storing-end : n ≤ i → BlockWritten list choice v block₀ block out
+    storing-end h =
+        let ended : listFrom list choice n i ≡ [] = rw (recordsFrom-none list n i h) in
+        let done : Filling (blockIn list choice v) block₀ block out [] = rw ended at (g .filling) in
+        record { area-after = filling-end done; length-is = filling-out done }
+
+    module _ (r : Record) (is : r ≡ chosenRecord (bitAt choice i) (recordOf (rowAt list i))) (h : i < n) where
+      pub storing-size : at + sizeOf r ≤ length v
+      storing-size = omega (arith, g .sizes, whole-split list choice n i r is h)
+
+      pub storing-match : (s a at′ : ℕ) → r ≡ Match s a → at′ ≡ at + sizeOf r → Storing list choice v block₀ block n (i + 1) at′ out
+      storing-match s a at′ m e =
+          let f : at′ ≡ at + s = e ∙ ap (λ (x : Record). at + sizeOf x) m in
+          record {
+            filling = rw (f, ← drop-drop s at v) (rw (list-split list choice n i r is h, m) at (g .filling));
+            sizes = omega (arith, g .sizes, whole-split list choice n i r is h);
+          }
+
+      module _ (s : ℕ) (m : r ≡ New s) where
+        pub part-length : length (take s (drop at v)) ≡ s
+        part-length = length-take-le s (drop at v) (omega (arith, length-drop at v, storing-size, ap sizeOf m))
+
+        to-store : Filling (blockIn list choice v) block₀ block out (take s (drop at v) ++ blockOf (listFrom list choice n (i + 1)) (drop (at + s) v))
+        to-store = rw (← drop-drop s at v) (rw (list-split list choice n i r is h, m, block-fuse s (listFrom list choice n (i + 1)) (drop at v)) at (g .filling))
+
+        pub storing-room : out + s ≤ length block
+        storing-room = omega (arith, filling-room to-store (ready .room), length-append (take s (drop at v)) (blockOf (listFrom list choice n (i + 1)) (drop (at + s) v)), part-length)
+
+        pub storing-new : (block′ p : List ℕ) (at′ out′ : ℕ) → p ≡ take s (drop at v) → block′ ≡ pasted out p block → at′ ≡ at + sizeOf r → out′ ≡ out + length p
+            → Storing list choice v block₀ block′ n (i + 1) at′ out′
+        storing-new block′ p at′ out′ q e f k =
+            let f′ : at′ ≡ at + s = f ∙ ap (λ (x : Record). at + sizeOf x) m in
+            record {
+              filling =
+                  rw f′
+                  (filling-put (take s (drop at v)) (blockOf (listFrom list choice n (i + 1)) (drop (at + s) v)) to-store (ready .room) block′ out′ (e ∙ ap (λ (x : List ℕ). pasted out x block) q) (k ∙ ap (λ (x : List ℕ). out + length x) q));
+              sizes = omega (arith, g .sizes, whole-split list choice n i r is h);
+            }

@@ -1,0 +1,1129 @@
+/* differential.c - the library's calls against the reference, on random, damaged and extreme inputs.
+ *
+ * For each call: the number returned, the answer area, and every byte of every area lent for writing, with the bytes around it,
+ * must be the reference's; what is lent for reading must stay as it was, and on refusal every area but the answer. Without the
+ * reference: the written list is the one its choice makes, it measures as the answer says and rebuilds the version, it comes
+ * back from a second partition as it is, short lists are held against all their choices, and the pass is held to its bounds.
+ *
+ * In order: the calls; chance; the areas; reports; one comparison; the laws; valid inputs; damage; the cases; the table.
+ *
+ *   differential [seed]
+ *
+ * The same seed gives the same inputs. Exit 0 where nothing differs and every number of document 01 was reached, else 1.
+ */
+#include <inttypes.h>
+#include <signal.h>
+#include <stdio.h>
+#include <stdlib.h>
+#include <string.h>
+
+#include "controller.h"
+#include "reference/reference.h"
+
+/* ---- The calls ---- */
+
+/* Where the library has no partition or pass yet, the reference stands in: its laws are tested, its calls are not counted. */
+#ifdef HAVE_PARTITION
+#define PARTITION_COUNTS 1
+extern uint32_t partition(uint32_t e, uint32_t f, const uint8_t *list, size_t list_len,
+                          const uint8_t *version, size_t version_len, const uint8_t *store, size_t store_len,
+                          uint8_t *choice, size_t choice_len, uint8_t *list_area, size_t list_area_len,
+                          uint8_t *block_area, size_t block_area_len, uint8_t *answer, size_t answer_len);
+#else
+#define PARTITION_COUNTS 0
+#define partition ref_partition
+#endif
+
+#ifdef HAVE_PASS
+#define PASS_COUNTS 1
+extern uint32_t pass(uint32_t e, uint32_t f, const uint8_t *list, size_t list_len,
+                     const uint8_t *version, size_t version_len, const uint8_t *store, size_t store_len,
+                     uint8_t *choice, size_t choice_len, uint8_t *list_area, size_t list_area_len,
+                     uint8_t *block_area, size_t block_area_len, uint8_t *answer, size_t answer_len);
+#else
+#define PASS_COUNTS 0
+#define pass ref_pass
+#endif
+
+enum { MEASURE, REBUILD, CHECK, PARTITION, PASS, CALLS };
+
+static const char *const call_name[CALLS] = { "measure", "rebuild", "check", "partition", "pass" };
+static const int counts[CALLS] = { 1, 1, 1, PARTITION_COUNTS, PASS_COUNTS };
+
+/* How many of each case. */
+enum { SMALL_CASES = 1000000, MIDDLE_CASES = 8000, FULL_CASES = 60, BRUTE_RECORDS = 10 };
+
+/* ---- Chance ---- */
+
+static uint64_t seed = UINT64_C(0x5eedb0c5);
+static uint64_t state;
+
+static uint64_t draw(void)
+{
+    state ^= state >> 12;
+    state ^= state << 25;
+    state ^= state >> 27;
+    return state * UINT64_C(0x2545f4914f6cdd1d);
+}
+
+/* A number below n, which is 1 or more. */
+static uint32_t below(uint64_t n)
+{
+    return (uint32_t)((draw() >> 16) % n);
+}
+
+static int one_in(uint32_t n)
+{
+    return below(n) == 0;
+}
+
+/* ---- The areas ---- */
+
+/* What a call is lent: the inputs, and the lengths of the areas to write. */
+struct input {
+    uint32_t e, f, k;
+    uint8_t *list, *version, *store, *block;
+    size_t list_len, version_len, store_len, block_len;
+    size_t choice_len, list_area_len, block_area_len, area_len, answer_len;
+};
+
+/* Bytes that are watched before and after each area to write; and the room beyond each limit. */
+enum { GUARD = 64, ROOM = 4096, NOISE = 65536 };
+
+/* The inputs, each with a copy to see that it stays; zeros stands for a version or store of any length and has no copy. */
+static uint8_t *list_bytes, *version_bytes, *store_bytes, *block_bytes;
+static uint8_t *list_copy, *version_copy, *store_copy, *block_copy;
+static uint8_t *zeros;
+static uint8_t noise[2 * NOISE];
+
+/* The areas to write. */
+enum { CHOICE, LIST, BLOCK, WHOLE, ANSWER, AREAS };
+enum { LIBRARY, REFERENCE, UNTOUCHED, SIDES };
+
+static struct area {
+    const char *name;
+    size_t most, len;
+    uint8_t *bytes[SIDES];
+} areas[AREAS] = {
+    { "choice area", RECORDS_MOST, 0, { 0 } },
+    { "list area", RECORD_BYTES * RECORDS_MOST, 0, { 0 } },
+    { "stored block area", VERSION_MOST, 0, { 0 } },
+    { "version area", VERSION_MOST, 0, { 0 } },
+    { "answer area", ANSWER_BYTES, 0, { 0 } },
+};
+
+/* The areas that each call is lent. */
+static const unsigned lent[CALLS] = {
+    1u << ANSWER,
+    1u << WHOLE | 1u << ANSWER,
+    1u << ANSWER,
+    1u << CHOICE | 1u << LIST | 1u << BLOCK | 1u << ANSWER,
+    1u << CHOICE | 1u << LIST | 1u << BLOCK | 1u << ANSWER,
+};
+
+/* The areas of the second partition and of the laws. */
+static uint8_t *law_choice, *law_list, *law_block, *law_whole;
+
+static uint8_t *room_for(size_t most)
+{
+    uint8_t *bytes = calloc(most + ROOM, 1);
+    if (bytes == NULL) {
+        puts("differential: no memory");
+        exit(1);
+    }
+    return bytes;
+}
+
+static void make_room(void)
+{
+    const size_t list_most = RECORD_BYTES * RECORDS_MOST;
+    list_bytes = room_for(list_most), list_copy = room_for(list_most);
+    version_bytes = room_for(VERSION_MOST), version_copy = room_for(VERSION_MOST);
+    store_bytes = room_for(VERSION_MOST), store_copy = room_for(VERSION_MOST);
+    block_bytes = room_for(VERSION_MOST), block_copy = room_for(VERSION_MOST);
+    zeros = room_for(STORE_MOST);
+    law_choice = room_for(RECORDS_MOST), law_list = room_for(list_most);
+    law_block = room_for(VERSION_MOST), law_whole = room_for(VERSION_MOST);
+    for (int a = 0; a < AREAS; a++)
+        for (int side = 0; side < SIDES; side++)
+            areas[a].bytes[side] = room_for(areas[a].most);
+    for (size_t i = 0; i < sizeof noise; i++)
+        noise[i] = (uint8_t)(draw() >> 40);
+}
+
+/* Where a side's area begins, behind its guard. */
+static uint8_t *area(int which, int side)
+{
+    return areas[which].bytes[side] + GUARD;
+}
+
+/* Fills bytes with noise. */
+static void fill(uint8_t *bytes, size_t len)
+{
+    while (len > 0) {
+        const size_t part = len < NOISE ? len : NOISE;
+        memcpy(bytes, noise + below(NOISE), part);
+        bytes += part;
+        len -= part;
+    }
+}
+
+/* Lends a call its areas: the same noise for each side, guards included. */
+static void lend(int call, const struct input *in)
+{
+    const size_t lens[AREAS] = { in->choice_len, in->list_area_len, in->block_area_len, in->area_len, in->answer_len };
+    for (int a = 0; a < AREAS; a++) {
+        if (!(lent[call] >> a & 1))
+            continue;
+        areas[a].len = lens[a];
+        const size_t watched = lens[a] + 2 * GUARD;
+        fill(areas[a].bytes[UNTOUCHED], watched);
+        memcpy(areas[a].bytes[LIBRARY], areas[a].bytes[UNTOUCHED], watched);
+        memcpy(areas[a].bytes[REFERENCE], areas[a].bytes[UNTOUCHED], watched);
+    }
+}
+
+/* ---- Fields ---- */
+
+static uint32_t get32(const uint8_t *b)
+{
+    return (uint32_t)b[0] | (uint32_t)b[1] << 8 | (uint32_t)b[2] << 16 | (uint32_t)b[3] << 24;
+}
+
+static void put32(uint8_t *b, uint32_t v)
+{
+    for (int i = 0; i < 4; i++)
+        b[i] = (uint8_t)(v >> (8 * i));
+}
+
+static uint8_t *record(uint8_t *list, size_t i)
+{
+    return list + RECORD_BYTES * i;
+}
+
+static uint32_t size_at(const struct input *in, size_t i)
+{
+    return get32(record(in->list, i) + 4);
+}
+
+static size_t records(const struct input *in)
+{
+    return in->list_len / RECORD_BYTES;
+}
+
+/* What the library's last answer to each call says. */
+static struct given {
+    uint32_t number, place;
+    uint64_t cost;
+    uint32_t entries, stored, looks, whole;
+} given[CALLS];
+
+static struct given read_answer(const uint8_t *b)
+{
+    struct given g = { get32(b), get32(b + 4), get32(b + 8) | (uint64_t)get32(b + 12) << 32,
+                       get32(b + 16), get32(b + 20), get32(b + 24), get32(b + 28) };
+    return g;
+}
+
+/* ---- Reports ---- */
+
+static uint64_t case_count;
+static const char *case_kind = "";
+
+static void dump(const char *name, const uint8_t *bytes, size_t len)
+{
+    const size_t shown = len < 1024 ? len : 1024;
+    printf("%s, %zu bytes%s:", name, len, shown < len ? ", the first" : "");
+    for (size_t i = 0; i < shown; i++)
+        printf("%s%02x", i % 48 == 0 ? "\n    " : i % 12 == 0 ? "  " : i % 4 == 0 ? " " : "", bytes[i]);
+    printf("\n");
+}
+
+static void dump_input(const struct input *in)
+{
+    printf("E %" PRIu32 " F %" PRIu32 " k %" PRIu32 ", %zu records\n", in->e, in->f, in->k, records(in));
+    printf("areas: choice %zu, list %zu, stored block %zu, version %zu, answer %zu\n", in->choice_len,
+           in->list_area_len, in->block_area_len, in->area_len, in->answer_len);
+    dump("list", in->list, in->list_len);
+    dump("version", in->version, in->version_len);
+    dump("store", in->store, in->store_len);
+    dump("stored block", in->block, in->block_len);
+}
+
+static void dump_answers(int call, const struct input *in)
+{
+    for (int side = LIBRARY; side <= REFERENCE; side++) {
+        if (in->answer_len < ANSWER_BYTES)
+            continue;
+        const struct given g = read_answer(area(ANSWER, side));
+        printf("%-9s of %s: number %" PRIu32 " place %" PRIu32 " cost %" PRIu64 " entries %" PRIu32 " stored %" PRIu32
+               " looks %" PRIu32 " whole %" PRIu32 "\n", side == LIBRARY ? "library" : "reference", call_name[call],
+               g.number, g.place, g.cost, g.entries, g.stored, g.looks, g.whole);
+    }
+}
+
+/* Ends the test at the first difference. */
+static _Noreturn void differ(int call, const char *what, const struct input *in)
+{
+    printf("differential: DIFFERENCE in %s: %s (seed 0x%" PRIx64 ", case %" PRIu64 ", %s)\n", call_name[call], what, seed,
+           case_count, case_kind);
+    dump_answers(call, in);
+    dump_input(in);
+    exit(1);
+}
+
+/* What is under way, for the report of a crash. */
+static int current_call;
+static const struct input *current_input;
+
+static void crashed(int signal_number)
+{
+    (void)signal_number;
+    differ(current_call, "a call crashed, or one on what it wrote", current_input);
+}
+
+static _Noreturn void differ_in_number(int call, uint32_t library, uint32_t reference, const struct input *in)
+{
+    char what[64];
+    snprintf(what, sizeof what, "returned %" PRIu32 ", the reference %" PRIu32, library, reference);
+    differ(call, what, in);
+}
+
+/* ---- One comparison ---- */
+
+static void keep_inputs(const struct input *in)
+{
+    memcpy(list_copy, in->list, in->list_len);
+    memcpy(block_copy, in->block, in->block_len);
+    if (in->version != zeros)
+        memcpy(version_copy, in->version, in->version_len);
+    if (in->store != zeros)
+        memcpy(store_copy, in->store, in->store_len);
+}
+
+static void inputs_stayed(int call, const struct input *in)
+{
+    if (memcmp(list_copy, in->list, in->list_len) != 0)
+        differ(call, "the list was written to", in);
+    if (memcmp(block_copy, in->block, in->block_len) != 0)
+        differ(call, "the stored block was written to", in);
+    if (in->version != zeros && memcmp(version_copy, in->version, in->version_len) != 0)
+        differ(call, "the version was written to", in);
+    if (in->store != zeros && memcmp(store_copy, in->store, in->store_len) != 0)
+        differ(call, "the store was written to", in);
+}
+
+/* Makes a call on one side. */
+static uint32_t run(int call, int side, const struct input *in)
+{
+    const int library = side == LIBRARY;
+    uint8_t *answer = area(ANSWER, side);
+    switch (call) {
+    case MEASURE:
+        return (library ? measure : ref_measure)(in->e, in->f, in->list, in->list_len, answer, in->answer_len);
+    case REBUILD:
+        return (library ? rebuild : ref_rebuild)(in->list, in->list_len, in->block, in->block_len,
+                                                 in->store, in->store_len, area(WHOLE, side), in->area_len,
+                                                 answer, in->answer_len);
+    case CHECK:
+        return (library ? check : ref_check)(in->list, in->list_len, in->block, in->block_len,
+                                             in->store, in->store_len, in->k, answer, in->answer_len);
+    case PARTITION:
+        return (library ? partition : ref_partition)(in->e, in->f, in->list, in->list_len, in->version, in->version_len,
+                                                     in->store, in->store_len, area(CHOICE, side), in->choice_len,
+                                                     area(LIST, side), in->list_area_len,
+                                                     area(BLOCK, side), in->block_area_len, answer, in->answer_len);
+    default:
+        return (library ? pass : ref_pass)(in->e, in->f, in->list, in->list_len, in->version, in->version_len,
+                                           in->store, in->store_len, area(CHOICE, side), in->choice_len,
+                                           area(LIST, side), in->list_area_len,
+                                           area(BLOCK, side), in->block_area_len, answer, in->answer_len);
+    }
+}
+
+/* Both sides of an area, guards included; on refusal also as it was lent. */
+static void same_area(int call, int which, int refused, const struct input *in)
+{
+    const struct area *a = &areas[which];
+    const size_t watched = a->len + 2 * GUARD;
+    char what[128];
+    if (memcmp(a->bytes[LIBRARY], a->bytes[REFERENCE], watched) != 0) {
+        size_t i = 0;
+        while (a->bytes[LIBRARY][i] == a->bytes[REFERENCE][i])
+            i++;
+        snprintf(what, sizeof what, "%s of %zu, byte %lld: library %02x, reference %02x", a->name, a->len,
+                 (long long)i - GUARD, a->bytes[LIBRARY][i], a->bytes[REFERENCE][i]);
+        differ(call, what, in);
+    }
+    if (refused && memcmp(a->bytes[LIBRARY], a->bytes[UNTOUCHED], watched) != 0) {
+        snprintf(what, sizeof what, "%s was written to on refusal", a->name);
+        differ(call, what, in);
+    }
+}
+
+/* The columns of the table: numbers 0 to 11, 6 at the short end, 9 for the answer area. */
+enum { SHORT_END = 12, SHORT_ANSWER = 13, COLUMNS = 14 };
+static uint64_t compared[CALLS], reached[CALLS][COLUMNS];
+
+static void tally(int call, const struct input *in)
+{
+    const struct given *g = &given[call];
+    uint32_t column = g->number;
+    if (g->number == BAD_SIZES && g->place == records(in))
+        column = SHORT_END;
+    if (in->answer_len < ANSWER_BYTES)
+        column = SHORT_ANSWER;
+    compared[call]++;
+    reached[call][column]++;
+}
+
+/* Compares one call; whether it was accepted. */
+static int compare(int call, const struct input *in)
+{
+    current_call = call;
+    current_input = in;
+    lend(call, in);
+    keep_inputs(in);
+    const uint32_t library = run(call, LIBRARY, in);
+    inputs_stayed(call, in);
+    const uint32_t reference = run(call, REFERENCE, in);
+    const int answered = in->answer_len >= ANSWER_BYTES;
+    if (library != reference)
+        differ_in_number(call, library, reference, in);
+    for (int a = 0; a < AREAS; a++)
+        if (lent[call] >> a & 1)
+            same_area(call, a, library != ACCEPTED && !(a == ANSWER && answered), in);
+    given[call] = answered ? read_answer(area(ANSWER, LIBRARY)) : (struct given){ .number = library };
+    if (given[call].number != library)
+        differ(call, "returned another number than it answered", in);
+    tally(call, in);
+    return library == ACCEPTED;
+}
+
+/* ---- The laws: what an accepted partition or pass must have written, without the reference ---- */
+
+static uint64_t dearer_passes, ties;
+
+/* The list and stored block that document 01 makes of a choice, into the areas of the laws; how many records. */
+static size_t list_of_choice(const struct input *in, const uint8_t *choice, size_t *stored)
+{
+    size_t entries = 0, offset = 0;
+    *stored = 0;
+    for (size_t i = 0; i < records(in); i++) {
+        const uint32_t size = size_at(in, i);
+        const int joins = choice[i] && i > 0 && choice[i - 1];
+        uint8_t *out = record(law_list, joins ? entries - 1 : entries);
+        if (joins) {
+            put32(out + 4, get32(out + 4) + size);
+        } else {
+            memcpy(out, record(in->list, i), RECORD_BYTES);
+            entries++;
+        }
+        if (choice[i]) {
+            out[0] = 0;
+            put32(out + 8, 0);
+            memcpy(law_block + *stored, in->version + offset, size);
+            *stored += size;
+        }
+        offset += size;
+    }
+    return entries;
+}
+
+/* The written list and block are the ones that the written choice makes. */
+static void law_of_choice(int call, const struct input *in)
+{
+    const uint8_t *choice = area(CHOICE, LIBRARY);
+    for (size_t i = 0; i < records(in); i++)
+        if (choice[i] > 1 || (record(in->list, i)[0] == 0 && choice[i] != 1))
+            differ(call, "the choice is none", in);
+    size_t stored;
+    const size_t entries = list_of_choice(in, choice, &stored);
+    if (given[call].entries != entries || given[call].stored != stored)
+        differ(call, "entries or stored bytes are not the choice's", in);
+    if (memcmp(area(LIST, LIBRARY), law_list, RECORD_BYTES * entries) != 0)
+        differ(call, "the written list is not the choice's", in);
+    if (memcmp(area(BLOCK, LIBRARY), law_block, stored) != 0)
+        differ(call, "the stored block is not the choice's", in);
+}
+
+/* The written list measures as the answer says. */
+static void law_of_measure(int call, const struct input *in)
+{
+    uint8_t answer[ANSWER_BYTES];
+    const struct given *g = &given[call];
+    const uint32_t number = measure(in->e, in->f, area(LIST, LIBRARY), RECORD_BYTES * g->entries, answer, sizeof answer);
+    const struct given m = read_answer(answer);
+    if (number != ACCEPTED || m.entries != g->entries || m.stored != g->stored || m.cost != g->cost ||
+        m.whole != in->version_len)
+        differ(call, "the written list does not measure as answered", in);
+}
+
+/* The written list, its stored block and the store rebuild the version. */
+static void law_of_rebuild(int call, const struct input *in)
+{
+    uint8_t answer[ANSWER_BYTES];
+    const struct given *g = &given[call];
+    const uint32_t number = rebuild(area(LIST, LIBRARY), RECORD_BYTES * g->entries, area(BLOCK, LIBRARY), g->stored,
+                                    in->store, in->store_len, law_whole, in->version_len, answer, sizeof answer);
+    if (number != ACCEPTED || read_answer(answer).whole != in->version_len)
+        differ(call, "the written list does not rebuild", in);
+    if (memcmp(law_whole, in->version, in->version_len) != 0)
+        differ(call, "the written list rebuilds another version", in);
+}
+
+/* The written list comes back from a second partition as it is. */
+static void law_of_second_partition(const struct input *in)
+{
+    uint8_t answer[ANSWER_BYTES];
+    const struct given *g = &given[PARTITION];
+    uint8_t *list = area(LIST, LIBRARY);
+    const size_t list_len = RECORD_BYTES * g->entries;
+    const uint32_t number = partition(in->e, in->f, list, list_len, in->version, in->version_len, in->store, in->store_len,
+                                      law_choice, g->entries, law_list, list_len, law_block, in->version_len,
+                                      answer, sizeof answer);
+    const struct given again = read_answer(answer);
+    if (number != ACCEPTED)
+        differ(PARTITION, "the second partition refused", in);
+    if (again.entries != g->entries || again.stored != g->stored || again.cost != g->cost)
+        differ(PARTITION, "the second partition answers otherwise", in);
+    if (memcmp(law_list, list, list_len) != 0 || memcmp(law_block, area(BLOCK, LIBRARY), g->stored) != 0)
+        differ(PARTITION, "the second partition writes otherwise", in);
+    for (size_t i = 0; i < g->entries; i++)
+        if (law_choice[i] != (record(list, i)[0] == 0))
+            differ(PARTITION, "the second partition chooses otherwise", in);
+}
+
+/* The cost of choice c, record 0 in its highest bit; UINT64_MAX where it keeps a new record. */
+static uint64_t cost_of_bits(const struct input *in, uint32_t c)
+{
+    const size_t n = records(in);
+    uint64_t cost = 0;
+    uint32_t last = 0;
+    for (size_t i = 0; i < n; i++) {
+        const uint32_t bit = c >> (n - 1 - i) & 1;
+        if (!bit && record(in->list, i)[0] == 0)
+            return UINT64_MAX;
+        cost += (uint64_t)in->e * in->f * !(bit && last) + (bit ? size_at(in, i) : 0);
+        last = bit;
+    }
+    return cost;
+}
+
+/* All choices, the one with 0 at the first difference first: the first of those that cost least is the least choice. */
+static void law_of_least(const struct input *in)
+{
+    const size_t n = records(in);
+    const uint8_t *choice = area(CHOICE, LIBRARY);
+    uint64_t least = UINT64_MAX;
+    uint32_t first = 0, equals = 0;
+    for (uint32_t c = 0; c < 1u << n; c++) {
+        const uint64_t cost = cost_of_bits(in, c);
+        equals = cost < least ? 0 : equals + (cost == least);
+        first = cost < least ? c : first;
+        least = cost < least ? cost : least;
+    }
+    ties += equals > 0;
+    if (least != given[PARTITION].cost)
+        differ(PARTITION, "the cost is not the least of all choices", in);
+    for (size_t i = 0; i < n; i++)
+        if (choice[i] != (first >> (n - 1 - i) & 1))
+            differ(PARTITION, "the choice is not the least of all choices", in);
+}
+
+/* The pass costs no less than partition's list and no more than the list handed in, and makes at most 2n - 1 looks. */
+static void law_of_pass(const struct input *in)
+{
+    const size_t n = records(in);
+    const struct given *g = &given[PASS];
+    if (g->cost < given[PARTITION].cost)
+        differ(PASS, "the pass costs less than partition", in);
+    if (g->cost > given[MEASURE].cost)
+        differ(PASS, "the pass costs more than the list handed in", in);
+    if (n == 0 ? g->looks != 0 : g->looks > 2 * n - 1)
+        differ(PASS, "too many looks", in);
+    dearer_passes += g->cost > given[PARTITION].cost;
+}
+
+/* ---- One case ---- */
+
+/* Compares all calls on one input; the laws follow the call they speak of, while its areas stand. */
+static void try_input(const struct input *in)
+{
+    case_count++;
+    compare(MEASURE, in);
+    compare(REBUILD, in);
+    compare(CHECK, in);
+    const int accepted = compare(PARTITION, in);
+    if (accepted) {
+        law_of_choice(PARTITION, in);
+        law_of_measure(PARTITION, in);
+        law_of_rebuild(PARTITION, in);
+        law_of_second_partition(in);
+        if (records(in) <= BRUTE_RECORDS)
+            law_of_least(in);
+    }
+    if (compare(PASS, in) != accepted)
+        differ(PASS, "accepted or refused otherwise than partition", in);
+    if (accepted) {
+        law_of_choice(PASS, in);
+        law_of_measure(PASS, in);
+        law_of_rebuild(PASS, in);
+        law_of_pass(in);
+    }
+}
+
+/* ---- Valid inputs ---- */
+
+/* A random input of this shape. */
+struct shape {
+    size_t records;     /* fewer where a new record would follow a new one for want of a store */
+    uint32_t size_most; /* longest record */
+    size_t store_len;
+    uint32_t letters;   /* bytes are below this */
+    uint32_t new_of_8;  /* chance of a new record, in eighths */
+};
+
+static void fill_letters(uint8_t *bytes, size_t len, uint32_t letters)
+{
+    for (size_t i = 0; i < len; i++)
+        bytes[i] = (uint8_t)('A' + below(letters));
+}
+
+/* An input with an empty list and a store that is filled later. */
+static struct input empty_input(size_t store_len)
+{
+    struct input in = { 0 };
+    in.list = list_bytes;
+    in.version = version_bytes;
+    in.store = store_bytes;
+    in.block = block_bytes;
+    in.store_len = store_len;
+    return in;
+}
+
+/* Appends a new record, its bytes random letters. */
+static void append_new(struct input *in, uint32_t size, uint32_t letters)
+{
+    uint8_t *r = list_bytes + in->list_len;
+    memset(r, 0, RECORD_BYTES);
+    put32(r + 4, size);
+    if (size <= ROOM)
+        fill_letters(version_bytes + in->version_len, size, letters);
+    else
+        fill(version_bytes + in->version_len, size);
+    memcpy(block_bytes + in->block_len, version_bytes + in->version_len, size);
+    in->list_len += RECORD_BYTES;
+    in->version_len += size;
+    in->block_len += size;
+}
+
+/* Appends a match of the store's bytes. */
+static void append_match(struct input *in, uint32_t size, uint32_t address)
+{
+    uint8_t *r = list_bytes + in->list_len;
+    memset(r, 0, RECORD_BYTES);
+    r[0] = 1;
+    put32(r + 4, size);
+    put32(r + 8, address);
+    memcpy(version_bytes + in->version_len, in->store + address, size);
+    in->list_len += RECORD_BYTES;
+    in->version_len += size;
+}
+
+/* A few bytes more than needed, or none. */
+static size_t extra(void)
+{
+    return one_in(2) ? 0 : below(48);
+}
+
+/* Lengths of areas that are long enough, and a k. */
+static void set_areas(struct input *in)
+{
+    in->choice_len = records(in) + extra();
+    in->list_area_len = in->list_len + extra();
+    in->block_area_len = in->version_len + extra();
+    in->area_len = in->version_len + extra();
+    in->answer_len = ANSWER_BYTES + extra();
+    in->k = records(in) == 0 ? 0 : below(records(in));
+}
+
+/* A size around P and 2P and their parts, cut to 1 and most. */
+static uint32_t draw_size(uint64_t price, uint32_t most)
+{
+    const uint64_t near[8] = { price, price, 2 * price, 2 * price, price / 2, price / 3, 1, below(2 * price + 3) };
+    const int64_t size = (int64_t)near[below(8)] + (int64_t)below(3) - 1;
+    if (size < 1)
+        return 1;
+    return size > most ? 1 + below(most) : (uint32_t)size;
+}
+
+/* Appends records of this shape. */
+static void append_records(struct input *in, const struct shape *shape)
+{
+    const uint64_t price = (uint64_t)in->e * in->f;
+    int last_new = 0;
+    for (size_t i = 0; i < shape->records; i++) {
+        const uint32_t size = draw_size(price, shape->size_most);
+        const int fits = size <= in->store_len;
+        if (!last_new && (!fits || below(8) < shape->new_of_8)) {
+            append_new(in, size, shape->letters);
+            last_new = 1;
+        } else if (in->store_len > 0) {
+            const uint32_t part = fits ? size : 1 + below(in->store_len);
+            const size_t last = in->store_len - part;
+            append_match(in, part, one_in(4) ? (uint32_t)last : below(last + 1));
+            last_new = 0;
+        }
+    }
+}
+
+/* A price: mostly small, so that few bytes reach P and 2P. */
+static void draw_price(struct input *in)
+{
+    const int big = one_in(16);
+    in->e = big ? 255 : one_in(3) ? 1 : 1 + below(12);
+    in->f = big || one_in(16) ? (one_in(2) ? 65535 : 1 + below(65535)) : 1 + below(3);
+}
+
+static struct input draw_input(const struct shape *shape)
+{
+    struct input in = empty_input(shape->store_len);
+    fill_letters(in.store, in.store_len, shape->letters);
+    draw_price(&in);
+    append_records(&in, shape);
+    set_areas(&in);
+    return in;
+}
+
+/* ---- Damage: each breaks one field or length, or sets it to the edge ---- */
+
+static uint8_t *some_record(struct input *in)
+{
+    return record(in->list, below(records(in)));
+}
+
+static void damage_price_e(struct input *in)
+{
+    const uint32_t wrong[] = { 0, 256, 65536, UINT32_MAX, 255, 1 };
+    in->e = wrong[below(6)];
+}
+
+static void damage_price_f(struct input *in)
+{
+    const uint32_t wrong[] = { 0, 65536, 65537, UINT32_MAX, 65535, 1 };
+    in->f = wrong[below(6)];
+}
+
+static void damage_kind(struct input *in)
+{
+    uint8_t *r = some_record(in);
+    r[0] = one_in(2) ? r[0] ^ 1 : one_in(2) ? 2 : (uint8_t)below(256);
+}
+
+static void damage_zero_bytes(struct input *in)
+{
+    some_record(in)[1 + below(3)] = (uint8_t)(1u << below(8));
+}
+
+static void damage_size_little(struct input *in)
+{
+    uint8_t *r = some_record(in);
+    put32(r + 4, get32(r + 4) + below(3) - 1);
+}
+
+static void damage_size_wild(struct input *in)
+{
+    const uint32_t wild[] = { 0, UINT32_MAX, VERSION_MOST, VERSION_MOST + 1, UINT32_C(1) << 31, below(1000) };
+    put32(some_record(in) + 4, wild[below(6)]);
+}
+
+/* The sizes up to a record reach 16,777,216, or pass it by 1. */
+static void damage_size_to_limit(struct input *in)
+{
+    const size_t at = below(records(in));
+    uint32_t sum = 0;
+    for (size_t i = 0; i < at; i++)
+        sum += size_at(in, i);
+    put32(record(in->list, at) + 4, VERSION_MOST - sum + below(2));
+}
+
+/* Two sizes trade a byte, so that the whole length stays. */
+static void damage_boundary(struct input *in)
+{
+    const size_t at = below(records(in));
+    if (at == 0)
+        return;
+    put32(record(in->list, at) + 4, size_at(in, at) - 1);
+    put32(record(in->list, at - 1) + 4, size_at(in, at - 1) + 1);
+}
+
+static void damage_address_little(struct input *in)
+{
+    uint8_t *r = some_record(in);
+    put32(r + 8, get32(r + 8) + below(3) - 1);
+}
+
+static void damage_address_wild(struct input *in)
+{
+    uint8_t *r = some_record(in);
+    const uint32_t end = (uint32_t)in->store_len - get32(r + 4);
+    const uint32_t wild[] = { 0, UINT32_MAX, end, end + 1, (uint32_t)in->store_len, UINT32_C(0) - get32(r + 4) };
+    put32(r + 8, wild[below(6)]);
+}
+
+/* A match becomes a whole new record, often beside a new one. */
+static void damage_to_new(struct input *in)
+{
+    uint8_t *r = some_record(in);
+    r[0] = 0;
+    put32(r + 8, 0);
+}
+
+static void damage_list_bit(struct input *in)
+{
+    in->list[below(in->list_len)] ^= (uint8_t)(1u << below(8));
+}
+
+static void damage_order(struct input *in)
+{
+    uint8_t kept[RECORD_BYTES], *a = some_record(in), *b = some_record(in);
+    memcpy(kept, a, RECORD_BYTES);
+    memmove(a, b, RECORD_BYTES);
+    memcpy(b, kept, RECORD_BYTES);
+}
+
+/* Any length near: a record or some bytes cut off, or what lies behind the list. */
+static void damage_list_len(struct input *in)
+{
+    if (one_in(2) && in->list_len >= RECORD_BYTES)
+        in->list_len -= one_in(2) ? RECORD_BYTES : 1 + below(RECORD_BYTES);
+    else
+        in->list_len += one_in(2) ? RECORD_BYTES : 1 + below(RECORD_BYTES);
+}
+
+static void damage_version_byte(struct input *in)
+{
+    if (in->version_len > 0 && in->version != zeros)
+        in->version[below(in->version_len)] ^= (uint8_t)(1u << below(8));
+}
+
+static void damage_store_byte(struct input *in)
+{
+    if (in->store_len > 0 && in->store != zeros)
+        in->store[below(in->store_len)] ^= (uint8_t)(1u << below(8));
+}
+
+static void damage_version_len(struct input *in)
+{
+    if (one_in(4)) {
+        in->version = zeros;
+        in->version_len = VERSION_MOST + below(2);
+    } else {
+        in->version_len = one_in(2) ? in->version_len + 1 : below(in->version_len + 1);
+    }
+}
+
+static void damage_store_len(struct input *in)
+{
+    if (one_in(4)) {
+        in->store = zeros;
+        in->store_len = STORE_MOST + below(2);
+    } else {
+        in->store_len = one_in(2) && in->store_len > 0 ? in->store_len - 1 : below(in->store_len + 1);
+    }
+}
+
+static void damage_block_len(struct input *in)
+{
+    in->block_len = one_in(2) ? in->block_len + 1 : below(in->block_len + 1);
+}
+
+/* One area to write becomes a byte too short, or much too short. */
+static void damage_area(struct input *in)
+{
+    size_t *const lens[] = { &in->choice_len, &in->list_area_len, &in->block_area_len, &in->area_len };
+    const size_t needed[] = { records(in), in->list_len, in->version_len, in->version_len };
+    const uint32_t which = below(4);
+    const size_t most = needed[which] < NOISE ? needed[which] : NOISE;
+    if (most > 0)
+        *lens[which] = one_in(2) ? most - 1 : below(most);
+}
+
+static void damage_answer(struct input *in)
+{
+    in->answer_len = one_in(2) ? ANSWER_BYTES - 1 : below(ANSWER_BYTES);
+}
+
+static void damage_k(struct input *in)
+{
+    const uint32_t n = (uint32_t)records(in);
+    const uint32_t wild[] = { n, n + 1, n - 1, UINT32_MAX, 0 };
+    in->k = wild[below(5)];
+}
+
+typedef void damage(struct input *in);
+
+/* The first 12 need no record. */
+static damage *const damages[] = {
+    damage_price_e, damage_price_f, damage_list_len, damage_version_byte, damage_store_byte, damage_version_len,
+    damage_store_len, damage_block_len, damage_area, damage_area, damage_answer, damage_k,
+    damage_kind, damage_zero_bytes, damage_size_little, damage_size_wild, damage_size_to_limit, damage_boundary,
+    damage_address_little, damage_address_wild, damage_to_new, damage_to_new, damage_list_bit, damage_order,
+};
+enum { DAMAGES = sizeof damages / sizeof damages[0], DAMAGES_WITHOUT_RECORD = 12 };
+
+static void damage_once(struct input *in)
+{
+    damages[below(records(in) == 0 ? DAMAGES_WITHOUT_RECORD : DAMAGES)](in);
+}
+
+/* Mostly one, else none or two. */
+static void damage_some(struct input *in)
+{
+    const uint32_t times[] = { 0, 1, 1, 2 };
+    for (uint32_t left = times[below(4)]; left > 0; left--)
+        damage_once(in);
+}
+
+/* ---- The cases ---- */
+
+/* Goes on from a list to all lists that begin with it and have up to so many records more, with sizes up to 2P + 1. */
+static void every_list(const struct input *in, size_t more, int last_new)
+{
+    struct input next = *in;
+    set_areas(&next);
+    try_input(&next);
+    for (uint32_t size = 1; more > 0 && size <= 2 * in->e * in->f + 1; size++) {
+        next = *in;
+        append_match(&next, size, below(in->store_len - size + 1));
+        every_list(&next, more - 1, 0);
+        if (last_new)
+            continue;
+        next = *in;
+        append_new(&next, size, 2);
+        every_list(&next, more - 1, 1);
+    }
+}
+
+/* Every short list for P = 1, 2 and 3. */
+static void short_lists(void)
+{
+    const size_t most[] = { 6, 5, 4 };
+    case_kind = "short lists";
+    for (uint32_t price = 1; price <= 3; price++) {
+        struct input in = empty_input(12);
+        fill_letters(in.store, in.store_len, 2);
+        in.e = price;
+        in.f = 1;
+        every_list(&in, most[price - 1], 0);
+    }
+}
+
+static void small_cases(void)
+{
+    case_kind = "small";
+    for (int i = 0; i < SMALL_CASES; i++) {
+        const struct shape shape = { below(13), 1 + below(48), below(80), 1 + below(3), below(6) };
+        struct input in = draw_input(&shape);
+        damage_some(&in);
+        try_input(&in);
+    }
+}
+
+static void middle_cases(void)
+{
+    case_kind = "middle";
+    for (int i = 0; i < MIDDLE_CASES; i++) {
+        const struct shape shape = { 13 + below(400), 1 + below(80), 1 + below(300), 1 + below(4), below(6) };
+        struct input in = draw_input(&shape);
+        damage_some(&in);
+        try_input(&in);
+    }
+}
+
+/* Lists of 4,096 records, whole and damaged. */
+static void full_cases(void)
+{
+    case_kind = "full";
+    for (int i = 0; i < FULL_CASES; i++) {
+        const struct shape shape = { RECORDS_MOST, 1 + below(200), 1 + below(2000), 1 + below(4), below(6) };
+        struct input in = draw_input(&shape);
+        try_input(&in);
+        damage_some(&in);
+        try_input(&in);
+    }
+}
+
+/* 49,152 list bytes, a byte less and more, a record more. */
+static void list_lengths(void)
+{
+    const struct shape shape = { RECORDS_MOST, 8, 100, 2, 3 };
+    case_kind = "list length";
+    struct input in = draw_input(&shape);
+    try_input(&in);
+    in.list_len--;
+    try_input(&in);
+    in.list_len += 2;
+    try_input(&in);
+    in.list_len--;
+    append_match(&in, 1, 0);
+    set_areas(&in);
+    try_input(&in);
+}
+
+/* A match at the end of a short store and of the longest; a store too long. */
+static void store_lengths(void)
+{
+    const struct { size_t store_len; uint32_t address, size; } edges[] = {
+        { 20, 15, 5 }, { 19, 15, 5 }, { 0, 0, 1 }, { STORE_MOST, STORE_MOST - 5, 5 }, { STORE_MOST, STORE_MOST - 5, 6 },
+        { STORE_MOST, STORE_MOST, 1 }, { STORE_MOST + 1, STORE_MOST - 5, 5 }, { STORE_MOST + 1, STORE_MOST - 5, 6 },
+    };
+    case_kind = "store length";
+    for (size_t i = 0; i < sizeof edges / sizeof edges[0]; i++) {
+        struct input in = empty_input(edges[i].store_len);
+        in.store = zeros;
+        draw_price(&in);
+        append_match(&in, edges[i].size, edges[i].address);
+        set_areas(&in);
+        try_input(&in);
+    }
+}
+
+/* Lists of two or three long records; a size of 0 ends the list. P is 8,388,480 for E 128, else 16,711,425 or small. */
+static const struct long_list {
+    uint32_t e, f;
+    struct { int is_new; uint32_t size; } records[3];
+} long_lists[] = {
+    { 128, 65535, { { 1, 5 }, { 0, 16776959 }, { 1, 5 } } },
+    { 128, 65535, { { 1, 5 }, { 0, 16776960 }, { 1, 5 } } },
+    { 128, 65535, { { 0, 8388479 }, { 1, 1 }, { 0, 8388480 } } },
+    { 128, 65535, { { 1, 1 }, { 0, 8388480 }, { 0, 0 } } },
+    { 128, 65535, { { 0, 4194240 }, { 0, 4194239 }, { 0, 8388480 } } },
+    { 255, 65535, { { 0, 8355712 }, { 0, 8355712 }, { 0, 0 } } },
+    { 255, 65535, { { 0, 8355712 }, { 0, 8355713 }, { 0, 0 } } },
+    { 255, 65535, { { 1, 16777216 }, { 0, 0 }, { 0, 0 } } },
+    { 1, 1, { { 0, 16777216 }, { 0, 0 }, { 0, 0 } } },
+    { 1, 1, { { 0, 16777216 }, { 1, 1 }, { 0, 0 } } },
+    { 1, 1, { { 1, 16777217 }, { 0, 0 }, { 0, 0 } } },
+};
+
+static void long_cases(void)
+{
+    case_kind = "long";
+    fill(store_bytes, VERSION_MOST);
+    for (size_t i = 0; i < sizeof long_lists / sizeof long_lists[0]; i++) {
+        struct input in = empty_input(VERSION_MOST);
+        in.e = long_lists[i].e;
+        in.f = long_lists[i].f;
+        for (int j = 0; j < 3 && long_lists[i].records[j].size > 0; j++) {
+            const uint32_t size = long_lists[i].records[j].size;
+            if (long_lists[i].records[j].is_new)
+                append_new(&in, size, 2);
+            else
+                append_match(&in, size, below(in.store_len - size + 1));
+        }
+        set_areas(&in);
+        try_input(&in);
+    }
+}
+
+/* 4,096 records of 4,096 bytes, which is the longest version; then its last byte wrong, and a byte more. */
+static void longest_full_case(uint32_t e, uint32_t f)
+{
+    case_kind = "longest and full";
+    struct input in = empty_input(VERSION_MOST);
+    fill(store_bytes, VERSION_MOST);
+    in.e = e;
+    in.f = f;
+    for (int i = 0; i < RECORDS_MOST; i++) {
+        if (i % 4 == 0)
+            append_new(&in, RECORDS_MOST, 4);
+        else
+            append_match(&in, RECORDS_MOST, below(in.store_len - RECORDS_MOST + 1));
+    }
+    set_areas(&in);
+    try_input(&in);
+    in.version[in.version_len - 1] ^= 1;
+    try_input(&in);
+    in.version[in.version_len - 1] ^= 1;
+    in.version_len++;
+    set_areas(&in);
+    try_input(&in);
+}
+
+/* ---- The table ---- */
+
+/* The columns that each call must reach. */
+static const char *const required[CALLS] = {
+    "xx.xxxx......x",
+    "x.xxxxxx.xx..x",
+    "x.xxxxxx..xx.x",
+    "xxxxxxxxxx..xx",
+    "xxxxxxxxxx..xx",
+};
+
+static void print_table(void)
+{
+    printf("%-9s  %8s |", "call", "compared");
+    for (int column = 0; column < SHORT_END; column++)
+        printf(" %7d", column);
+    printf(" %7s %7s\n", "6 end", "9 ans");
+    for (int call = 0; call < CALLS; call++) {
+        printf("%-9s  %8" PRIu64 " |", call_name[call], counts[call] ? compared[call] : 0);
+        for (int column = 0; column < COLUMNS; column++)
+            printf(" %7" PRIu64, reached[call][column]);
+        printf("%s\n", counts[call] ? "" : "  (not in the library: the reference alone)");
+    }
+    printf("short lists with another choice as cheap: %" PRIu64 "; passes dearer than partition: %" PRIu64 "\n", ties,
+           dearer_passes);
+}
+
+/* How many required columns were never reached. */
+static int missing(void)
+{
+    int count = 0;
+    for (int call = 0; call < CALLS; call++)
+        for (int column = 0; column < COLUMNS; column++)
+            if (required[call][column] == 'x' && reached[call][column] == 0) {
+                const int number = column == SHORT_END ? 6 : column == SHORT_ANSWER ? 9 : column;
+                printf("differential: %s never gave %d%s\n", call_name[call], number, column < SHORT_END ? "" :
+                       column == SHORT_END ? " at the short end" : " for the answer area");
+                count++;
+            }
+    return count;
+}
+
+int main(int argc, char **argv)
+{
+    if (argc > 1)
+        seed = strtoull(argv[1], NULL, 0);
+    state = seed == 0 ? 1 : seed;
+    printf("differential: seed 0x%" PRIx64 "\n", seed);
+    signal(SIGSEGV, crashed);
+    signal(SIGABRT, crashed);
+    signal(SIGILL, crashed);
+    signal(SIGFPE, crashed);
+    make_room();
+    short_lists();
+    small_cases();
+    middle_cases();
+    full_cases();
+    list_lengths();
+    store_lengths();
+    long_cases();
+    longest_full_case(16, 256);
+    longest_full_case(8, 256);
+    print_table();
+    uint64_t calls = 0;
+    for (int call = 0; call < CALLS; call++)
+        calls += counts[call] ? compared[call] : 0;
+    if (zeros[0] != 0 || memcmp(zeros, zeros + 1, STORE_MOST) != 0) {
+        puts("differential: the long store was written to");
+        return 1;
+    }
+    if (missing() > 0)
+        return 1;
+    printf("differential: %" PRIu64 " calls compared, 0 differences\n", calls);
+    return 0;
+}
