@@ -5,7 +5,8 @@
  * reference: the written list is the one its choice makes, it measures as the answer says and rebuilds the version, it comes
  * back from a second partition as it is, short lists are held against all their choices, and the pass is held to its bounds.
  *
- * In order: the calls; chance; the areas; reports; one comparison; the laws; valid inputs; damage; the cases; the table.
+ * In order: the calls; chance; the areas; fields; reports; one comparison; the laws; one case; valid inputs; damage; the cases;
+ * the table. Not here: NULL for an empty area, which controller.h does not allow.
  *
  *   differential [seed]
  *
@@ -279,7 +280,7 @@ static const struct input *current_input;
 static void crashed(int signal_number)
 {
     (void)signal_number;
-    differ(current_call, "a call crashed, or one on what it wrote", current_input);
+    differ(current_call, "crashed, here or in a call on what it wrote", current_input);
 }
 
 static _Noreturn void differ_in_number(int call, uint32_t library, uint32_t reference, const struct input *in)
@@ -436,7 +437,7 @@ static void law_of_choice(int call, const struct input *in)
     const uint8_t *choice = area(CHOICE, LIBRARY);
     for (size_t i = 0; i < records(in); i++)
         if (choice[i] > 1 || (record(in->list, i)[0] == 0 && choice[i] != 1))
-            differ(call, "the choice is none", in);
+            differ(call, "a choice byte that no choice for this list has", in);
     size_t stored;
     const size_t entries = list_of_choice(in, choice, &stored);
     if (given[call].entries != entries || given[call].stored != stored)
@@ -577,7 +578,7 @@ static void try_input(const struct input *in)
 
 /* A random input of this shape. */
 struct shape {
-    size_t records;     /* fewer where a new record would follow a new one for want of a store */
+    size_t records;     /* at most 1 where the store is empty, since a match needs a store */
     uint32_t size_most; /* longest record */
     size_t store_len;
     uint32_t letters;   /* bytes are below this */

@@ -65,10 +65,10 @@ pub size-chosen : (b : Bit) (r : Record) → sizeOf (chosenRecord b r) ≡ sizeO
 size-chosen keep r = refl
 size-chosen store r = refl
 
-pub whole-list : (rs : List Record) (c : List Bit) → IsChoice rs c → whole (listOf rs c) ≡ whole rs
+pub whole-list : (rs : List Record) (c : List Bit) → length c ≡ length rs → whole (listOf rs c) ≡ whole rs
 whole-list [] c h = refl
-whole-list (r ∷ rs) [] h = absurd h
-whole-list (r ∷ rs) (b ∷ c) h = omega (arith, whole-join (chosenRecord b r) (listOf rs c), size-chosen b r, whole-list rs c (h .1))
+whole-list (r ∷ rs) [] h = absurd (omega arith)
+whole-list (r ∷ rs) (b ∷ c) h = omega (arith, whole-join (chosenRecord b r) (listOf rs c), size-chosen b r, whole-list rs c (omega arith))
 
 -- ---- well formed again
 

@@ -18,6 +18,11 @@ stored-most [] = omega arith
 stored-most (New s ∷ l) = omega (arith, stored-most l)
 stored-most (Match s a ∷ l) = omega (arith, stored-most l)
 
+pub whole-agrees : (st : List ℕ) (l : List Record) (v : List ℕ) → Agrees st l v → whole l ≡ length v
+whole-agrees st [] v h = sym (ap length h)
+whole-agrees st (New s ∷ l) v h = omega (arith, h .0, length-drop s v, whole-agrees st l (drop s v) (h .1))
+whole-agrees st (Match s a ∷ l) v h = omega (arith, h .0, length-drop s v, whole-agrees st l (drop s v) (h .3))
+
 pub rebuilt-block : (st : List ℕ) (l : List Record) (v : List ℕ) → Agrees st l v → rebuilt l (blockOf l v) st ≡ v
 rebuilt-block st [] v h = sym h
 rebuilt-block st (New s ∷ l) v h =
@@ -25,10 +30,11 @@ rebuilt-block st (New s ∷ l) v h =
     (take-append-drop s v)
 rebuilt-block st (Match s a ∷ l) v h = rw (← h .2, rebuilt-block st l (drop s v) (h .3)) (take-append-drop s v)
 
-pub length-block : (st : List ℕ) (l : List Record) (v : List ℕ) → Agrees st l v → length (blockOf l v) ≡ stored l
-length-block st [] v h = refl
-length-block st (New s ∷ l) v h = rw (length-append, length-take-le s v (h .0), length-block st l (drop s v) (h .1))
-length-block st (Match s a ∷ l) v h = length-block st l (drop s v) (h .3)
+pub length-block : (l : List Record) (v : List ℕ) → whole l ≤ length v → length (blockOf l v) ≡ stored l
+length-block [] v h = refl
+length-block (New s ∷ l) v h =
+    length-append (take s v) (blockOf l (drop s v)) ∙ omega (arith, length-take-le s v (omega arith), length-block l (drop s v) (omega (arith, length-drop s v)))
+length-block (Match s a ∷ l) v h = length-block l (drop s v) (omega (arith, length-drop s v))
 
 pub length-rebuilt : (l : List Record) (b st : List ℕ) → Inside st l → stored l ≤ length b → length (rebuilt l b st) ≡ whole l
 length-rebuilt [] b st h k = refl

@@ -34,6 +34,9 @@ pub both-of-and : (a b : Bool) → a && b ≡ true → (a ≡ true) × (b ≡ tr
 both-of-and true b e = (refl, e)
 both-of-and false b e = absurd (let z : _≡_ {A = ℕ} 0 1 = cc in omega arith)
 
+pub and-of-both : (a b : Bool) → a ≡ true → b ≡ true → a && b ≡ true
+and-of-both a b e f = rw (e, f)
+
 pub fine-of-accepted : (q : Ruling) (x y : Figures) → answer q x ≡ Accepted y → q ≡ Fine
 fine-of-accepted Fine x y e = refl
 fine-of-accepted (Stop r) x y e = absurd (let z : _≡_ {A = ℕ} 0 1 = cc in omega arith)

@@ -11,18 +11,19 @@ use Rattle.format.specs.declared.Record.{Record}
 use Rattle.format.specs.declared.Record.the-variants.{New, Match}
 use Rattle.format.specs.Limits.{versionMost}
 use Rattle.format.specs.Record.{from, rowAt, recordOf, records, recordsOf, bytesOf, encode}
-use Rattle.format.specs.Meaning.{sizeOf, whole, blockOf}
-use Rattle.format.proofs.Rows.{recordsFrom, recordsFrom-next, recordsFrom-none, recordsFrom-all, from-next, from-none}
-use Rattle.format.proofs.Encoding.{encode-append, length-bytes}
+use Rattle.format.specs.Meaning.{sizeOf, whole, stored, blockOf}
+use Rattle.format.proofs.Rows.{recordsFrom, recordsFrom-next, recordsFrom-none, recordsFrom-all, from-next, from-none, length-from, length-recordsOf}
+use Rattle.format.proofs.Rebuilding.{length-block, stored-most}
+use Rattle.format.proofs.Encoding.{encode-append, length-bytes, length-encode}
 use Rattle.area.specs.Area.{pasted, over}
 use Rattle.area.proofs.Pasting.{pasted-none}
 use Rattle.area.proofs.Filling.{Filling, filling-start, filling-put, filling-end, filling-out, filling-room}
 use Rattle.choice.specs.Choice.{Bit, keep, store, bitAt, bitsOf, fuse, join, tidy, chosen, chosenRecord}
-use Rattle.choice.proofs.Lists.{size-chosen, block-fuse}
+use Rattle.choice.proofs.Lists.{size-chosen, block-fuse, whole-list, length-list}
 use Rattle.choice.proofs.Least.{fuse-fuse}
 use Rattle.writer.specs.declared.Open.{Open}
 use Rattle.writer.specs.declared.Open.the-variants.{No, One}
-use Rattle.writer.specs.Write.{listIn, blockIn, jointOf, pending, openSize, flushed, opened, Emits, ListReady, ListWritten, BlockReady, BlockWritten}
+use Rattle.writer.specs.Write.{listIn, blockIn, jointOf, pending, openSize, flushed, opened, Emits, ListReady, ListWritten, BlockReady, BlockWritten, Writable}
 
 -- the list of the choice from record i on, of n
 abbrev pub listFrom : List ℕ → List ℕ → ℕ → ℕ → List Record
@@ -197,3 +198,32 @@ module _ (list choice v block₀ : List ℕ) (ready : BlockReady list choice v b
                   (filling-put (take s (drop at v)) (blockOf (listFrom list choice n (i + 1)) (drop (at + s) v)) to-store (ready .room) block′ out′ (e ∙ ap (λ (x : List ℕ). pasted out x block) q) (k ∙ ap (λ (x : List ℕ). out + length x) q));
               sizes = omega (arith, g .sizes, whole-split list choice n i r is h);
             }
+
+-- ---- both
+
+module _ (list choice v area block : List ℕ) (w : Writable list choice v area block) where
+  length-bits-in : length (bitsOf (length list / 12) choice) ≡ length (recordsOf list)
+  length-bits-in = length-from (bitAt choice) 0 (length list / 12) ∙ sym (length-recordsOf list)
+
+  whole-in : whole (listIn list choice) ≡ whole (recordsOf list)
+  whole-in = whole-list (recordsOf list) (bitsOf (length list / 12) choice) length-bits-in
+
+  pub entries-most : length (listIn list choice) ≤ length list / 12
+  entries-most = omega (arith, length-list (recordsOf list) (bitsOf (length list / 12) choice), length-recordsOf list)
+
+  pub block-length : length (blockIn list choice v) ≡ stored (listIn list choice)
+  block-length = length-block (listIn list choice) v (omega (arith, whole-in, w .in-version))
+
+  pub block-most : length (blockIn list choice v) ≤ length v
+  block-most = omega (arith, block-length, stored-most (listIn list choice), whole-in, w .in-version)
+
+  pub list-ready : ListReady list choice area
+  list-ready =
+      record {
+        in-choice = w .in-choice;
+        whole-most = omega (arith, w .in-version, w .version-most);
+        room = omega (arith, length-encode (listIn list choice), entries-most, w .in-area);
+      }
+
+  pub block-ready : BlockReady list choice v block
+  block-ready = record { in-choice = w .in-choice; in-version = w .in-version; room = omega (arith, block-most, w .in-block) }

@@ -6,12 +6,13 @@ use mathlib.Core.List.{List, [], _∷_, _++_}
 use lib.ListN.{length}
 use Rattle.format.specs.declared.Record.{Record}
 use Rattle.format.specs.declared.Record.the-variants.{New, Match}
-use Rattle.format.specs.Limits.{versionMost}
+use Rattle.format.specs.Limits.{listMost, versionMost}
 use Rattle.format.specs.Record.{word, encode, recordsOf}
-use Rattle.format.specs.Meaning.{sizeOf, whole, blockOf}
+use Rattle.format.specs.Meaning.{sizeOf, whole, stored, blockOf}
 use Rattle.area.specs.Area.{pasted, over}
 use Rattle.choice.specs.Choice.{bitsOf, listOf}
 use Rattle.writer.specs.declared.Emitted.{Emitted}
+use Rattle.writer.specs.declared.Wrote.{Wrote}
 use Rattle.writer.specs.declared.Open.{Open}
 use Rattle.writer.specs.declared.Open.the-variants.{No, One}
 
@@ -81,3 +82,18 @@ pub record BlockReady (list choice version block : List ℕ) : Type 0 where
 pub record BlockWritten (list choice version block after : List ℕ) (r : ℕ) : Type 0 where
   pub area-after : after ≡ over (blockIn list choice version) block
   pub length-is : r ≡ length (blockIn list choice version)
+
+-- what the writing asks: lengths within the limits, sizes within the version, and areas as long as the inputs
+pub record Writable (list choice version area block : List ℕ) : Type 0 where
+  pub list-most : length list ≤ listMost
+  pub version-most : length version ≤ versionMost
+  pub in-version : whole (recordsOf list) ≤ length version
+  pub in-choice : length list / 12 ≤ length choice
+  pub in-area : length list ≤ length area
+  pub in-block : length version ≤ length block
+
+pub record Written (list choice version area block : List ℕ) (r : Wrote) (area′ block′ : List ℕ) : Type 0 where
+  pub area-after : area′ ≡ over (encode (listIn list choice)) area
+  pub block-after : block′ ≡ over (blockIn list choice version) block
+  pub entries-is : r .entries ≡ length (listIn list choice)
+  pub stored-is : r .stored ≡ stored (listIn list choice)

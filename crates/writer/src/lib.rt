@@ -5,7 +5,7 @@ ghost use Prim.Native.Nat.{_+_, _*_, _/_, _≤_, _<_};
 ghost use lib.ListN.{length};
 ghost use Rattle.format.specs.Record.{bytesOf, encode, recordsOf};
 ghost use Rattle.area.specs.Area.{pasted};
-ghost use Rattle.writer.specs.Write.{fields, jointOf, pending, openSize, flushed, Emits, ListReady, ListWritten, BlockReady, BlockWritten};
+ghost use Rattle.writer.specs.Write.{fields, jointOf, pending, openSize, flushed, Emits, ListReady, ListWritten, BlockReady, BlockWritten, Writable, Written};
 
 use format::Record;
 
@@ -148,4 +148,23 @@ pub fn write_block(list: &[u8], choice: &[u8], version: &[u8], block: &mut [u8])
         }
     }
     out
+}
+
+// The numbers of a list that was written.
+pub struct Wrote {
+    pub entries: u32,
+    pub stored: u32,
+}
+
+// The list and the stored block of the choice, each over the front of its area.
+pub fn write(list: &[u8], choice: &[u8], version: &[u8], area: &mut [u8], block: &mut [u8]) -> Wrote
+    requires { ⌜ Writable (now list) (now choice) (now version) (now area) (now block) ⌝ }
+    ensures { λ r. ⌜ Written (now (list .entry)) (now (choice .entry)) (now (version .entry)) (now (area .entry)) (now (block .entry)) r (now (area .exit)) (now (block .exit)) ⌝ }
+{
+    let length = write_list(list, choice, area);
+    let stored = write_block(list, choice, version, block);
+    Wrote {
+        entries: (length / 12) as u32,
+        stored: stored as u32,
+    }
 }

@@ -1,0 +1,120 @@
+-- The checks of partition and pass, one by one; what inputs that pass them have; and that a well-formed list that was written passes them.
+-- Assumes nothing.
+use Prim.Native.Nat.{ℕ, _*_, _/_, _%_, _≤_}
+use native.Mathlib.Omega.{arith}
+use mathlib.Core.Path.{_≡_, refl, sym, _∙_, ap}
+use mathlib.Core.Bool.{Bool, true, false, _&&_}
+use mathlib.Core.List.{List}
+use lib.Dec.{eqb, leb}
+use lib.ListN.{length}
+use borrow.Author.Tests.{leb-true, le-leb, eq-eqb, ne-eqb, eqb-true}
+use Rattle.format.specs.declared.Fault.the-variants.{Price, TooLong, ListLength, AreaTooShort, Sizes}
+use Rattle.format.specs.declared.Record.{Record}
+use Rattle.format.specs.declared.Refusal.{Refusal}
+use Rattle.format.specs.declared.Ruling.{Ruling}
+use Rattle.format.specs.declared.Ruling.the-variants.{Fine, Stop}
+use Rattle.format.specs.Limits.{listMost, versionMost, storeMost}
+use Rattle.format.specs.Refusal.{need, refuse, _then_}
+use Rattle.format.specs.Record.{listFits, rowsOf, recordsOf, encode}
+use Rattle.format.specs.Meaning.{whole}
+use Rattle.format.specs.WellFormed.{WellFormed}
+use Rattle.format.proofs.Rulings.{fine-of-then, then-of-fine, true-of-need, both-of-and, and-of-both}
+use Rattle.format.proofs.Rows.{Counted, counted-of-fits}
+use Rattle.format.proofs.Encoding.{length-encode, records-encode}
+use Rattle.format.proofs.Rebuilding.{whole-agrees}
+use Rattle.walk.specs.declared.Scope.the-variants as scope
+use Rattle.walk.specs.Checks.{checks, walkRuling, front}
+use Rattle.walk.proofs.Accepted.{each-of-fine, sized-of-four, apart-of-five, agrees-of-eight}
+use Rattle.walk.proofs.Written.{walk-encode}
+use Rattle.price.specs.Price.{priceFits}
+use Rattle.admit.specs.Admit.{lengthsFit, areasFit, admitRuling}
+
+module _ (e f : ℕ) (list v st : List ℕ) (c a b : ℕ) where
+  pub admit-price : priceFits e f ≡ false → admitRuling e f list v st c a b ≡ Stop (refuse Price 0)
+  admit-price h = rw h
+
+  module _ (h : priceFits e f ≡ true) where
+    pub admit-lengths : lengthsFit v st ≡ false → admitRuling e f list v st c a b ≡ Stop (refuse TooLong 0)
+    admit-lengths k = rw (h, k)
+
+    module _ (k : lengthsFit v st ≡ true) where
+      pub admit-list : listFits list ≡ false → admitRuling e f list v st c a b ≡ Stop (refuse ListLength 0)
+      admit-list l = rw (h, k, l)
+
+      module _ (l : listFits list ≡ true) where
+        pub admit-areas : areasFit list v c a b ≡ false → admitRuling e f list v st c a b ≡ Stop (refuse AreaTooShort 0)
+        admit-areas m = rw (h, k, l, m)
+
+        module _ (m : areasFit list v c a b ≡ true) where
+          pub admit-walk : (x : Refusal) → walkRuling (checks scope.Version v st) list ≡ Stop x → admitRuling e f list v st c a b ≡ Stop x
+          admit-walk x w = rw (h, k, l, m, w)
+
+          module _ (w : walkRuling (checks scope.Version v st) list ≡ Fine) where
+            pub admit-short : (whole (recordsOf list) ≡ length v → ⊥) → admitRuling e f list v st c a b ≡ Stop (refuse Sizes (length (recordsOf list)))
+            admit-short n = rw (h, k, l, m, w, ne-eqb (whole (recordsOf list)) (length v) n)
+
+            pub admit-fine : whole (recordsOf list) ≡ length v → admitRuling e f list v st c a b ≡ Fine
+            admit-fine n = rw (h, k, l, m, w, eq-eqb (whole (recordsOf list)) (length v) n)
+
+pub lengths-most : (v st : List ℕ) → lengthsFit v st ≡ true → (length v ≤ versionMost) × (length st ≤ storeMost)
+lengths-most v st h = let k = both-of-and (leb (length v) versionMost) (leb (length st) storeMost) h in (leb-true (length v) versionMost (k .0), leb-true (length st) storeMost (k .1))
+
+-- what admitted inputs have
+pub record Sound (e f : ℕ) (list v st : List ℕ) (c a b : ℕ) : Type 0 where
+  pub price-fits : priceFits e f ≡ true
+  pub lengths-fit : lengthsFit v st ≡ true
+  pub version-most : length v ≤ versionMost
+  pub counted : Counted list
+  pub in-choice : length list / 12 ≤ c
+  pub in-area : length list ≤ a
+  pub in-block : length v ≤ b
+  pub whole-is : whole (recordsOf list) ≡ length v
+  pub well-formed : WellFormed st (recordsOf list) v
+
+pub sound-of-fine : (e f : ℕ) (list v st : List ℕ) (c a b : ℕ) → admitRuling e f list v st c a b ≡ Fine → Sound e f list v st c a b
+sound-of-fine e f list v st c a b h =
+    let last : Ruling = need (eqb (whole (recordsOf list)) (length v)) Sizes (length (recordsOf list)) in
+    let walked : Ruling = walkRuling (checks scope.Version v st) list in
+    let nine : Ruling = need (areasFit list v c a b) AreaTooShort 0 in
+    let three : Ruling = need (listFits list) ListLength 0 in
+    let two : Ruling = need (lengthsFit v st) TooLong 0 in
+    let h₁ = fine-of-then (need (priceFits e f) Price 0) (two then three then nine then walked then last) h in
+    let h₂ = fine-of-then two (three then nine then walked then last) (h₁ .1) in
+    let h₃ = fine-of-then three (nine then walked then last) (h₂ .1) in
+    let h₄ = fine-of-then nine (walked then last) (h₃ .1) in
+    let h₅ = fine-of-then walked last (h₄ .1) in
+    let lengths = true-of-need (lengthsFit v st) TooLong 0 (h₂ .0) in
+    let areas = both-of-and (leb (length list / 12) c && leb (length list) a) (leb (length v) b) (true-of-need (areasFit list v c a b) AreaTooShort 0 (h₄ .0)) in
+    let pair = both-of-and (leb (length list / 12) c) (leb (length list) a) (areas .0) in
+    let w : whole (recordsOf list) ≡ length v = eqb-true (whole (recordsOf list)) (length v) (true-of-need (eqb (whole (recordsOf list)) (length v)) Sizes (length (recordsOf list)) (h₅ .1)) in
+    let each = each-of-fine (checks scope.Version v st) front (rowsOf list) (h₅ .0) in
+    record {
+      price-fits = true-of-need (priceFits e f) Price 0 (h₁ .0);
+      lengths-fit = lengths;
+      version-most = lengths-most v st lengths .0;
+      counted = counted-of-fits list (true-of-need (listFits list) ListLength 0 (h₃ .0));
+      in-choice = leb-true (length list / 12) c (pair .0);
+      in-area = leb-true (length list) a (pair .1);
+      in-block = leb-true (length v) b (areas .1);
+      whole-is = w;
+      well-formed = record {
+        sized = sized-of-four front (rowsOf list) (each .0);
+        apart = apart-of-five front (rowsOf list) (each .1 .0) .0;
+        agrees = agrees-of-eight v st front (rowsOf list) (each .1 .1 .0) (each .1 .1 .1 .0) (each .1 .1 .1 .1 .0) (omega arith);
+      };
+    }
+
+-- a written list that is well formed is admitted where price, lengths and areas are
+pub fine-of-written : (e f : ℕ) (l : List Record) (v st : List ℕ) (c a b : ℕ) → priceFits e f ≡ true → lengthsFit v st ≡ true → length l ≤ 4096
+    → length l ≤ c → 12 * length l ≤ a → length v ≤ b → WellFormed st l v → admitRuling e f (encode l) v st c a b ≡ Fine
+fine-of-written e f l v st c a b h k n p q r w =
+    admit-fine e f (encode l) v st c a b h k
+    (and-of-both (leb (length (encode l)) listMost) (eqb (length (encode l) % 12) 0) (le-leb (length (encode l)) listMost (omega (arith, len))) (eq-eqb (length (encode l) % 12) 0 (omega (arith, len))))
+    (and-of-both (leb (length (encode l) / 12) c && leb (length (encode l)) a) (leb (length v) b)
+    (and-of-both (leb (length (encode l) / 12) c) (leb (length (encode l)) a) (le-leb (length (encode l) / 12) c (omega (arith, len))) (le-leb (length (encode l)) a (omega (arith, len))))
+    (le-leb (length v) b r))
+    (walk-encode v st l w)
+    (ap whole (records-encode l) ∙ whole-agrees st l v (w .agrees))
+  where
+    len : length (encode l) ≡ 12 * length l
+    len = length-encode l

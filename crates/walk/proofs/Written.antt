@@ -1,0 +1,63 @@
+-- A list that is written and well formed passes the walk again, check by check.
+-- Assumes nothing.
+use Prim.Native.Nat.{ℕ, _+_, _≤_}
+use native.Mathlib.Omega.{arith}
+use mathlib.Core.Path.{_≡_, refl, sym, _∙_, ap}
+use mathlib.Core.Bool.{Bool, true, false, not, _&&_}
+use mathlib.Core.List.{List, [], _∷_}
+use lib.ListN.{length, take, drop}
+use lib.Seq.{drop-drop}
+use borrow.Author.Tests.{le-leb}
+use Rattle.format.specs.declared.Record.{Record}
+use Rattle.format.specs.declared.Record.the-variants.{New, Match}
+use Rattle.format.specs.declared.Ruling.the-variants.{Fine}
+use Rattle.format.specs.Record.{encode}
+use Rattle.format.specs.Meaning.{whole}
+use Rattle.format.specs.WellFormed.{Sized, NotNew, Apart, Inside, Agrees, WellFormed}
+use Rattle.format.proofs.Encoding.{rowFor, rowsFor, rows-encode}
+use Rattle.format.proofs.Rebuilding.{whole-agrees}
+use Rattle.walk.specs.declared.Seen.{Seen}
+use Rattle.walk.specs.declared.Scope.the-variants as scope
+use Rattle.walk.specs.Checks.{four, five, six, seven, eight, sameBytes, next, front, checks, walkRuling, walkOn}
+use Rattle.walk.proofs.Equality.{same-refl}
+use Rattle.walk.proofs.Accepted.{Holds, fine-of-each}
+
+four-of-sized : (s : Seen) (l : List Record) → Sized l → Holds four s (rowsFor l)
+four-of-sized s [] h = tt
+four-of-sized s (New n ∷ l) h = (rw (le-leb 1 n (h .0)), four-of-sized (next s (rowFor (New n))) l (h .1))
+four-of-sized s (Match n a ∷ l) h = (rw (le-leb 1 n (h .0)), four-of-sized (next s (rowFor (Match n a))) l (h .1))
+
+five-of-apart : (s : Seen) (l : List Record) → (s .after ≡ true → NotNew l) → Apart l → Holds five s (rowsFor l)
+five-of-apart s [] g h = tt
+five-of-apart s (New n ∷ l) g h = (go (s .after) g, five-of-apart (next s (rowFor (New n))) l (λ e. h .0) (h .1))
+  where
+    go : (x : Bool) → (x ≡ true → ⊥) → not x ≡ true
+    go true k = absurd (k refl)
+    go false k = refl
+five-of-apart s (Match n a ∷ l) g h = (refl, five-of-apart (next s (rowFor (Match n a))) l (λ e. absurd (let z : _≡_ {A = ℕ} 0 1 = cc in omega arith)) h)
+
+six-of-whole : (limit : ℕ) (s : Seen) (l : List Record) → s .offset + whole l ≤ limit → Holds (six limit) s (rowsFor l)
+six-of-whole limit s [] h = tt
+six-of-whole limit s (New n ∷ l) h = (le-leb (s .offset + n) limit (omega arith), six-of-whole limit (next s (rowFor (New n))) l (omega arith))
+six-of-whole limit s (Match n a ∷ l) h = (le-leb (s .offset + n) limit (omega arith), six-of-whole limit (next s (rowFor (Match n a))) l (omega arith))
+
+seven-of-agrees : (st : List ℕ) (s : Seen) (l : List Record) (v : List ℕ) → Agrees st l v → Holds (seven st) s (rowsFor l)
+seven-of-agrees st s [] v h = tt
+seven-of-agrees st s (New n ∷ l) v h = (refl, seven-of-agrees st (next s (rowFor (New n))) l (drop n v) (h .1))
+seven-of-agrees st s (Match n a ∷ l) v h = (le-leb (a + n) (length st) (h .1), seven-of-agrees st (next s (rowFor (Match n a))) l (drop n v) (h .3))
+
+eight-of-agrees : (v st : List ℕ) (s : Seen) (l : List Record) → Agrees st l (drop (s .offset) v) → Holds (eight v st) s (rowsFor l)
+eight-of-agrees v st s [] h = tt
+eight-of-agrees v st s (New n ∷ l) h = (refl, eight-of-agrees v st (next s (rowFor (New n))) l (rw (drop-drop n (s .offset) v) at (h .1)))
+eight-of-agrees v st s (Match n a ∷ l) h =
+    (rw (h .2) (same-refl (take n (drop a st))), eight-of-agrees v st (next s (rowFor (Match n a))) l (rw (drop-drop n (s .offset) v) at (h .3)))
+
+pub walk-encode : (v st : List ℕ) (l : List Record) → WellFormed st l v → walkRuling (checks scope.Version v st) (encode l) ≡ Fine
+walk-encode v st l w =
+    rw (rows-encode l)
+    (fine-of-each (checks scope.Version v st) front (rowsFor l) (
+      four-of-sized front l (w .sized),
+      (five-of-apart front l (λ e. absurd (let z : _≡_ {A = ℕ} 0 1 = cc in omega arith)) (w .apart),
+        (six-of-whole (length v) front l (omega (arith, whole-agrees st l v (w .agrees))),
+          (seven-of-agrees st front l v (w .agrees), (eight-of-agrees v st front l (w .agrees), tt)))),
+    ))
