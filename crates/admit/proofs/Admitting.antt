@@ -27,7 +27,9 @@ use Rattle.walk.specs.Checks.{checks, walkRuling, front}
 use Rattle.walk.proofs.Accepted.{each-of-fine, sized-of-four, apart-of-five, agrees-of-eight}
 use Rattle.walk.proofs.Written.{walk-encode}
 use Rattle.price.specs.Price.{priceFits}
-use Rattle.admit.specs.Admit.{lengthsFit, areasFit, admitRuling}
+use Rattle.price.specs.declared.DiskBytes.{DiskBytes}
+use Rattle.admit.specs.declared.Admitted.the-variants.{At, Stopped}
+use Rattle.admit.specs.Admit.{lengthsFit, areasFit, admitRuling, admitted}
 
 module _ (e f : ℕ) (list v st : List ℕ) (c a b : ℕ) where
   pub admit-price : priceFits e f ≡ false → admitRuling e f list v st c a b ≡ Stop (refuse Price 0)
@@ -118,3 +120,13 @@ fine-of-written e f l v st c a b h k n p q r w =
   where
     len : length (encode l) ≡ 12 * length l
     len = length-encode l
+
+-- ---- what an answer tells
+
+pub fine-of-at : (q : Ruling) (p : ℕ) (d : DiskBytes) → admitted q p ≡ At d → (q ≡ Fine) × (d .0 ≡ p)
+fine-of-at Fine p d e = (refl, let m : d ≡ record { 0 = p } = cc in ap (λ (x : DiskBytes). x .0) m)
+fine-of-at (Stop r) p d e = absurd (let z : _≡_ {A = ℕ} 0 1 = cc in omega arith)
+
+pub stop-of-stopped : (q : Ruling) (p : ℕ) (x : Refusal) → admitted q p ≡ Stopped x → q ≡ Stop x
+stop-of-stopped Fine p x e = absurd (let z : _≡_ {A = ℕ} 0 1 = cc in omega arith)
+stop-of-stopped (Stop y) p x e = cc

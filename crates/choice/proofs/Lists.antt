@@ -14,6 +14,7 @@ use Rattle.format.specs.Record.{from}
 use Rattle.format.specs.Meaning.{sizeOf, whole, stored, blockOf}
 use Rattle.format.proofs.Encoding.{from-shift}
 use Rattle.format.specs.WellFormed.{Sized, NotNew, Apart, Agrees, WellFormed}
+use Rattle.area.specs.Area.{over}
 use Rattle.choice.specs.Choice.{Bit, keep, store, bitByte, bitBytes, bitAt, bitsOf, IsChoice, fuse, join, chosenRecord, listOf}
 use Rattle.choice.proofs.Least.{keep-store}
 
@@ -41,6 +42,10 @@ bits-back [] t = refl
 bits-back (b ∷ c) t =
     rw (bit-byte b (bitBytes c ++ t))
     (ap (λ (l : List Bit). b ∷ l) (from-shift (bitAt (bitByte b ∷ (bitBytes c ++ t))) (bitAt (bitBytes c ++ t)) (bit-shift (bitByte b) (bitBytes c ++ t)) 0 (length c) ∙ bits-back c t))
+
+-- the bits of an area that begins with a choice
+pub bits-over : (n : ℕ) (c : List Bit) (area : List ℕ) → length c ≡ n → bitsOf n (over (bitBytes c) area) ≡ c
+bits-over n c area e = rw (← e) (bits-back c (drop (length (bitBytes c)) area))
 
 -- ---- sizes
 

@@ -1,0 +1,62 @@
+-- From admitted inputs, a choice in its area and what was written of it, to the answer and the areas of the call.
+-- Assumes nothing.
+use Prim.Native.Nat.{ℕ, _/_, _≤_}
+use native.Mathlib.Omega.{arith}
+use mathlib.Core.Path.{_≡_, refl, sym, _∙_, ap}
+use mathlib.Core.List.{List}
+use lib.ListN.{length}
+use Rattle.format.specs.declared.Record.{Record}
+use Rattle.format.specs.declared.Figures.{Figures}
+use Rattle.format.specs.declared.Ruling.{Ruling}
+use Rattle.format.specs.declared.Ruling.the-variants.{Fine, Stop}
+use Rattle.format.specs.declared.Refusal.{Refusal}
+use Rattle.format.specs.declared.Answer.{Answer}
+use Rattle.format.specs.declared.Answer.the-variants.{Accepted, Refused}
+use Rattle.format.specs.Record.{recordsOf, encode}
+use Rattle.format.specs.Meaning.{stored, blockOf}
+use Rattle.format.proofs.Rows.{length-recordsOf}
+use Rattle.price.specs.Price.{cost}
+use Rattle.area.specs.Area.{over}
+use Rattle.choice.specs.Choice.{Bit, bitBytes, bitsOf, IsChoice, listOf}
+use Rattle.choice.proofs.Lists.{length-choice, bits-over}
+use Rattle.writer.specs.declared.Wrote.{Wrote}
+use Rattle.writer.specs.Write.{listIn, blockIn, Writable, Written}
+use Rattle.admit.specs.Admit.{figures, Divided}
+use Rattle.admit.proofs.Admitting.{Sound}
+
+pub divided-refused : (q : Ruling) (x : Refusal) (p : ℕ) (list v choice area block : List ℕ) (c : List Bit) (looks : ℕ) (r : Answer) → q ≡ Stop x → r ≡ Refused x
+    → Divided q p list v choice area block c looks r choice area block
+divided-refused q x p list v choice area block c looks r e f = record { answered = rw e f; choice-after = rw e; area-after = rw e; block-after = rw e }
+
+module _ (e f : ℕ) (list v st choice area block : List ℕ) (s : Sound e f list v st (length choice) (length area) (length block)) where
+  pub writable : (choice′ : List ℕ) → length choice′ ≡ length choice → Writable list choice′ v area block
+  writable choice′ k =
+      record {
+        list-most = s .counted .list-most;
+        version-most = s .version-most;
+        in-version = omega (arith, s .whole-is);
+        in-choice = omega (arith, s .in-choice, k);
+        in-area = s .in-area;
+        in-block = s .in-block;
+      }
+
+  module _ (q : Ruling) (fine : q ≡ Fine) (p : ℕ) (c : List Bit) (is-choice : IsChoice (recordsOf list) c) (choice′ area′ block′ : List ℕ) (w : Wrote)
+      (swept : choice′ ≡ over (bitBytes c) choice) (done : Written list choice′ v area block w area′ block′) where
+    listed : listIn list choice′ ≡ listOf (recordsOf list) c
+    listed = ap (listOf (recordsOf list)) (ap (bitsOf (length list / 12)) swept ∙ bits-over (length list / 12) c choice (length-choice (recordsOf list) c is-choice ∙ length-recordsOf list))
+
+    pub entries-chosen : w .entries ≡ length (listOf (recordsOf list) c)
+    entries-chosen = done .entries-is ∙ ap length listed
+
+    pub stored-chosen : w .stored ≡ stored (listOf (recordsOf list) c)
+    stored-chosen = done .stored-is ∙ ap stored listed
+
+    pub divided : (cost-is looks : ℕ) → cost-is ≡ cost p (listOf (recordsOf list) c)
+        → Divided q p list v choice area block c looks (Accepted (record { cost = cost-is; entries = w .entries; stored = w .stored; looks = looks; whole = 0 })) choice′ area′ block′
+    divided cost-is looks k =
+        record {
+          answered = rw fine (rw (k, entries-chosen, stored-chosen));
+          choice-after = rw fine swept;
+          area-after = rw fine (done .area-after ∙ ap (λ (l : List Record). over (encode l) area) listed);
+          block-after = rw fine (done .block-after ∙ ap (λ (l : List Record). over (blockOf l v) block) listed);
+        }
