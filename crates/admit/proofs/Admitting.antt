@@ -20,7 +20,7 @@ use Rattle.format.specs.Meaning.{whole}
 use Rattle.format.specs.WellFormed.{WellFormed}
 use Rattle.format.proofs.Rulings.{fine-of-then, then-of-fine, true-of-need, both-of-and, and-of-both}
 use Rattle.format.proofs.Rows.{Counted, counted-of-fits}
-use Rattle.format.proofs.Encoding.{length-encode, records-encode}
+use Rattle.format.proofs.Encoding.{length-encode, records-encode, fits-encode}
 use Rattle.format.proofs.Rebuilding.{whole-agrees}
 use Rattle.walk.specs.declared.Scope.the-variants as scope
 use Rattle.walk.specs.Checks.{checks, walkRuling, front}
@@ -111,7 +111,7 @@ pub fine-of-written : (e f : ℕ) (l : List Record) (v st : List ℕ) (c a b : �
     → length l ≤ c → 12 * length l ≤ a → length v ≤ b → WellFormed st l v → admitRuling e f (encode l) v st c a b ≡ Fine
 fine-of-written e f l v st c a b h k n p q r w =
     admit-fine e f (encode l) v st c a b h k
-    (and-of-both (leb (length (encode l)) listMost) (eqb (length (encode l) % 12) 0) (le-leb (length (encode l)) listMost (omega (arith, len))) (eq-eqb (length (encode l) % 12) 0 (omega (arith, len))))
+    (fits-encode l n)
     (and-of-both (leb (length (encode l) / 12) c && leb (length (encode l)) a) (leb (length v) b)
     (and-of-both (leb (length (encode l) / 12) c) (leb (length (encode l)) a) (le-leb (length (encode l) / 12) c (omega (arith, len))) (le-leb (length (encode l)) a (omega (arith, len))))
     (le-leb (length v) b r))

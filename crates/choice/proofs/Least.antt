@@ -12,8 +12,8 @@ use Rattle.format.specs.declared.Record.{Record}
 use Rattle.format.specs.declared.Record.the-variants.{New, Match}
 use Rattle.format.specs.Meaning.{sizeOf, stored}
 use Rattle.price.specs.Price.{cost}
-use Rattle.choice.specs.Choice.{Bit, keep, store, Free, only, either, freedom, May, IsChoice, choices, fuse, join, chosenRecord, listOf, costOf, firstOf, firstMin, least}
-use Rattle.choice.proofs.Path.{Beats, walk, best, pick, first, walk-pick, pick-is-first, pick-fits, pick-beats, best-least, pick-first, first-fits, choices-cong, le-beats}
+use Rattle.choice.specs.Choice.{Bit, keep, store, Free, only, either, freedom, May, IsChoice, choices, fuse, join, chosenRecord, listOf, costOf, firstOf, firstMin, least, Early, IsLeast}
+use Rattle.choice.proofs.Path.{Beats, walk, best, pick, first, walk-pick, pick-is-first, pick-fits, pick-beats, best-least, pick-first, first-fits, choices-cong, le-beats, early-antisym}
 
 abbrev pub after : Record → Bit → Bit
 after r b = b
@@ -63,6 +63,28 @@ module _ (price : ℕ) where
   -- the least choice against any other: it costs less, or as much and has 0 at the first record where they differ
   pub least-beats : (rs : List Record) (c : List Bit) → IsChoice rs c → Beats (costOf price rs (least price rs)) (least price rs) (costOf price rs c) c
   least-beats rs c h = rw (least-cost rs, least-pick rs, spent rs c h .0) (pick-beats after (step price) rs keep c h)
+
+-- the least choice is least, and no other is
+pub least-is-least : (p : ℕ) (rs : List Record) → IsLeast p rs (least p rs)
+least-is-least p rs =
+    record {
+      choice = least-fits p rs;
+      cheapest = λ d h. le-beats (least-beats p rs d h);
+      foremost = λ d h e. tie d (least-beats p rs d h) e;
+    }
+  where
+    tie : (d : List Bit) → Beats (costOf p rs (least p rs)) (least p rs) (costOf p rs d) d → costOf p rs d ≡ costOf p rs (least p rs) → Early (least p rs) d
+    tie d (inl l) e = absurd (omega (arith, l, e))
+    tie d (inr k) e = k .1
+
+pub least-alone : (p : ℕ) (rs : List Record) (c : List Bit) → IsLeast p rs c → c ≡ least p rs
+least-alone p rs c h =
+    let m : List Bit = least p rs in
+    let l = least-is-least p rs in
+    let a = h .cheapest (least p rs) (l .choice) in
+    let b = l .cheapest c (h .choice) in
+    let e : costOf p rs c ≡ costOf p rs (least p rs) = omega arith in
+    early-antisym c (least p rs) (h .foremost (least p rs) (l .choice) (sym e)) (l .foremost c (h .choice) e)
 
 -- ---- a list partitioned once
 

@@ -1,6 +1,6 @@
 -- Document 01, "A choice": the choices for a list, the list of a choice, and the least choice.
 -- Assumes nothing.
-use Prim.Native.Nat.{ℕ, _+_}
+use Prim.Native.Nat.{ℕ, _+_, _≤_}
 use mathlib.Core.Path.{_≡_}
 use mathlib.Core.Bool.{Bool, true, false, cond}
 use mathlib.Core.List.{List, [], _∷_, _++_}
@@ -131,3 +131,9 @@ firstOf f (c ∷ cs) = firstMin f c cs
 -- the least choice: of all choices in order, the first whose list costs least, at the price p of an entry
 abbrev pub least : ℕ → List Record → List Bit
 least p rs = firstOf (costOf p rs) (choices rs)
+
+-- what makes a choice the least: it costs no more than any other, and where another costs as much it has 0 at the first record where they differ
+pub record IsLeast (p : ℕ) (rs : List Record) (c : List Bit) : Type 0 where
+  pub choice : IsChoice rs c
+  pub cheapest : (d : List Bit) → IsChoice rs d → costOf p rs c ≤ costOf p rs d
+  pub foremost : (d : List Bit) → IsChoice rs d → costOf p rs d ≡ costOf p rs c → Early c d

@@ -7,13 +7,16 @@ use native.Mathlib.Numerals.{add-one}
 use mathlib.Core.Path.{_≡_, refl, sym, _∙_, ap}
 use mathlib.Core.Bool.{Bool, true, false, cond}
 use mathlib.Core.List.{List, [], _∷_, _++_, append-assoc}
+use lib.Dec.{eqb, leb}
 use lib.ListN.{length, getD, take, drop, length-append}
 use lib.Seq.{getD-append-add, drop-cons, drop-drop, take-add}
-use borrow.Author.Tests.{eqb-true, eqb-false}
+use borrow.Author.Tests.{eqb-true, eqb-false, eq-eqb, le-leb}
 use Rattle.format.specs.declared.Row.{Row}
 use Rattle.format.specs.declared.Record.{Record}
 use Rattle.format.specs.declared.Record.the-variants.{New, Match}
-use Rattle.format.specs.Record.{wordAt, rowAt, from, rowsOf, isNew, recordOf, records, recordsOf, wellFormed, word, bytesOf, encode}
+use Rattle.format.specs.Record.{wordAt, rowAt, from, rowsOf, isNew, recordOf, records, recordsOf, wellFormed, listFits, word, bytesOf, encode}
+use Rattle.format.specs.Limits.{listMost}
+use Rattle.format.proofs.Rulings.{and-of-both}
 use Rattle.format.proofs.Rows.{Formed, formed-of-test}
 
 pub length-bytes : (r : Record) → length (bytesOf r) ≡ 12
@@ -91,6 +94,12 @@ records-rows (Match s a ∷ l) = ap (λ (k : List Record). Match s a ∷ k) (rec
 -- a written list is read as it was
 pub records-encode : (l : List Record) → recordsOf (encode l) ≡ l
 records-encode l = ap records (rows-encode l) ∙ records-rows l
+
+-- a written list of at most 4,096 records passes check 3
+pub fits-encode : (l : List Record) → length l ≤ 4096 → listFits (encode l) ≡ true
+fits-encode l n =
+    and-of-both (leb (length (encode l)) listMost) (eqb (length (encode l) % 12) 0) (le-leb (length (encode l)) listMost (omega (arith, length-encode l)))
+    (eq-eqb (length (encode l) % 12) 0 (omega (arith, length-encode l)))
 
 -- ---- read, then written
 

@@ -23,6 +23,11 @@ whole-agrees st [] v h = sym (ap length h)
 whole-agrees st (New s ∷ l) v h = omega (arith, h .0, length-drop s v, whole-agrees st l (drop s v) (h .1))
 whole-agrees st (Match s a ∷ l) v h = omega (arith, h .0, length-drop s v, whole-agrees st l (drop s v) (h .3))
 
+pub inside-agrees : (st : List ℕ) (l : List Record) (v : List ℕ) → Agrees st l v → Inside st l
+inside-agrees st [] v h = tt
+inside-agrees st (New s ∷ l) v h = inside-agrees st l (drop s v) (h .1)
+inside-agrees st (Match s a ∷ l) v h = (h .1, inside-agrees st l (drop s v) (h .3))
+
 pub rebuilt-block : (st : List ℕ) (l : List Record) (v : List ℕ) → Agrees st l v → rebuilt l (blockOf l v) st ≡ v
 rebuilt-block st [] v h = sym h
 rebuilt-block st (New s ∷ l) v h =

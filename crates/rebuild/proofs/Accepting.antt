@@ -14,13 +14,16 @@ use Rattle.format.specs.declared.Ruling.{Ruling}
 use Rattle.format.specs.declared.Ruling.the-variants.{Fine, Stop}
 use Rattle.format.specs.Limits.{storeMost, versionMost}
 use Rattle.format.specs.Refusal.{need, refuse, _then_}
-use Rattle.format.specs.Record.{listFits, rowsOf, recordsOf}
+use Rattle.format.specs.declared.Record.{Record}
+use Rattle.format.specs.Record.{listFits, rowsOf, recordsOf, encode}
 use Rattle.format.specs.Meaning.{stored}
 use Rattle.format.specs.WellFormed.{Readable}
 use Rattle.format.proofs.Rulings.{fine-of-then, true-of-need}
 use Rattle.format.proofs.Rows.{Counted, counted-of-fits}
 use Rattle.walk.specs.declared.Scope.the-variants as scope
 use Rattle.walk.specs.Checks.{checks, walkRuling, front}
+use Rattle.format.proofs.Encoding.{records-encode, fits-encode}
+use Rattle.walk.proofs.Written.{walk-store}
 use Rattle.walk.proofs.Accepted.{each-of-fine, sized-of-four, apart-of-five, whole-of-six, inside-of-seven}
 use Rattle.rebuild.specs.Rebuild.{inputsRuling, checkRuling}
 
@@ -66,3 +69,8 @@ module _ (list block st : List ℕ) where
   checked-parts k e =
       let a = fine-of-then (inputsRuling list block st) (need (ltb k (length (recordsOf list))) NoSuchRecord 0) e in
       (readable-of-inputs (a .0) .1, ltb-true k (length (recordsOf list)) (true-of-need (ltb k (length (recordsOf list))) NoSuchRecord 0 (a .1)))
+
+-- a written list is accepted with its stored block
+pub inputs-written : (l : List Record) (block st : List ℕ) → length l ≤ 4096 → length st ≤ storeMost → Readable l block st → inputsRuling (encode l) block st ≡ Fine
+inputs-written l block st n h r =
+    inputs-fine (encode l) block st h (fits-encode l n) (walk-store st l (r .sized) (r .apart) (r .inside) (r .whole-most)) (r .block-fits ∙ ap stored (sym (records-encode l)))

@@ -11,11 +11,12 @@ use borrow.Author.Tests.{le-leb}
 use Rattle.format.specs.declared.Record.{Record}
 use Rattle.format.specs.declared.Record.the-variants.{New, Match}
 use Rattle.format.specs.declared.Ruling.the-variants.{Fine}
+use Rattle.format.specs.Limits.{versionMost}
 use Rattle.format.specs.Record.{encode}
 use Rattle.format.specs.Meaning.{whole}
 use Rattle.format.specs.WellFormed.{Sized, NotNew, Apart, Inside, Agrees, WellFormed}
 use Rattle.format.proofs.Encoding.{rowFor, rowsFor, rows-encode}
-use Rattle.format.proofs.Rebuilding.{whole-agrees}
+use Rattle.format.proofs.Rebuilding.{whole-agrees, inside-agrees}
 use Rattle.walk.specs.declared.Seen.{Seen}
 use Rattle.walk.specs.declared.Scope.the-variants as scope
 use Rattle.walk.specs.Checks.{four, five, six, seven, eight, sameBytes, next, front, checks, walkRuling, walkOn}
@@ -41,23 +42,40 @@ six-of-whole limit s [] h = tt
 six-of-whole limit s (New n ∷ l) h = (le-leb (s .offset + n) limit (omega arith), six-of-whole limit (next s (rowFor (New n))) l (omega arith))
 six-of-whole limit s (Match n a ∷ l) h = (le-leb (s .offset + n) limit (omega arith), six-of-whole limit (next s (rowFor (Match n a))) l (omega arith))
 
-seven-of-agrees : (st : List ℕ) (s : Seen) (l : List Record) (v : List ℕ) → Agrees st l v → Holds (seven st) s (rowsFor l)
-seven-of-agrees st s [] v h = tt
-seven-of-agrees st s (New n ∷ l) v h = (refl, seven-of-agrees st (next s (rowFor (New n))) l (drop n v) (h .1))
-seven-of-agrees st s (Match n a ∷ l) v h = (le-leb (a + n) (length st) (h .1), seven-of-agrees st (next s (rowFor (Match n a))) l (drop n v) (h .3))
-
 eight-of-agrees : (v st : List ℕ) (s : Seen) (l : List Record) → Agrees st l (drop (s .offset) v) → Holds (eight v st) s (rowsFor l)
 eight-of-agrees v st s [] h = tt
 eight-of-agrees v st s (New n ∷ l) h = (refl, eight-of-agrees v st (next s (rowFor (New n))) l (rw (drop-drop n (s .offset) v) at (h .1)))
 eight-of-agrees v st s (Match n a ∷ l) h =
     (rw (h .2) (same-refl (take n (drop a st))), eight-of-agrees v st (next s (rowFor (Match n a))) l (rw (drop-drop n (s .offset) v) at (h .3)))
 
+seven-of-inside : (st : List ℕ) (s : Seen) (l : List Record) → Inside st l → Holds (seven st) s (rowsFor l)
+seven-of-inside st s [] h = tt
+seven-of-inside st s (New n ∷ l) h = (refl, seven-of-inside st (next s (rowFor (New n))) l h)
+seven-of-inside st s (Match n a ∷ l) h = (le-leb (a + n) (length st) (h .0), seven-of-inside st (next s (rowFor (Match n a))) l (h .1))
+
+at-front : (l : List Record) → front .after ≡ true → NotNew l
+at-front l e = absurd (let z : _≡_ {A = ℕ} 0 1 = cc in omega arith)
+
+-- in measure
+pub walk-sizes : (l : List Record) → Sized l → Apart l → whole l ≤ versionMost → walkRuling (checks scope.Sizes [] []) (encode l) ≡ Fine
+walk-sizes l h k w =
+    rw (rows-encode l)
+    (fine-of-each (checks scope.Sizes [] []) front (rowsFor l) (four-of-sized front l h, (five-of-apart front l (at-front l) k, (six-of-whole versionMost front l (omega arith), tt))))
+
+-- in check, show and rebuild
+pub walk-store : (st : List ℕ) (l : List Record) → Sized l → Apart l → Inside st l → whole l ≤ versionMost → walkRuling (checks scope.Store [] st) (encode l) ≡ Fine
+walk-store st l h k i w =
+    rw (rows-encode l)
+    (fine-of-each (checks scope.Store [] st) front (rowsFor l)
+    (four-of-sized front l h, (five-of-apart front l (at-front l) k, (six-of-whole versionMost front l (omega arith), (seven-of-inside st front l i, tt)))))
+
+-- in partition and pass
 pub walk-encode : (v st : List ℕ) (l : List Record) → WellFormed st l v → walkRuling (checks scope.Version v st) (encode l) ≡ Fine
 walk-encode v st l w =
     rw (rows-encode l)
     (fine-of-each (checks scope.Version v st) front (rowsFor l) (
       four-of-sized front l (w .sized),
-      (five-of-apart front l (λ e. absurd (let z : _≡_ {A = ℕ} 0 1 = cc in omega arith)) (w .apart),
+      (five-of-apart front l (at-front l) (w .apart),
         (six-of-whole (length v) front l (omega (arith, whole-agrees st l v (w .agrees))),
-          (seven-of-agrees st front l v (w .agrees), (eight-of-agrees v st front l (w .agrees), tt)))),
+          (seven-of-inside st front l (inside-agrees st l v (w .agrees)), (eight-of-agrees v st front l (w .agrees), tt)))),
     ))
