@@ -1,7 +1,8 @@
 /* controller.h - the calls of the deposit box for a controller in C.
  *
- * Scope: the lists of document 01 ("The list"): what they measure, whether they are sound, the version they rebuild. Numbers and byte
- * areas go in; nothing is allocated, nothing is kept between calls, and every call returns on any input. Link with libcontroller.a.
+ * Scope: the lists of document 01 ("The list"): what they measure, whether they are sound, the version they rebuild, and the list that
+ * costs least. Numbers and byte areas go in; nothing is allocated, nothing is kept between calls, and every call returns on any input.
+ * Link with libcontroller.a.
  *
  * AREAS. An area is a pointer and its length in bytes. A length of 0 goes with any pointer that is not NULL. No area that is lent for
  * writing may share a byte with another area of the same call.
@@ -35,15 +36,17 @@
  *   whoever sets up the box
  *    1  E or F outside its range (E 1 to 255, F 1 to 65,535)
  *   the calling program
- *    2  the store is over 268,435,456 bytes
+ *    2  the version is over 16,777,216 bytes, or the store over 268,435,456
  *    9  an area too short
  *   11  there is no record k
  *   the finder of matches
  *    3  the list's length is no multiple of 12, or over 49,152
  *    4  a record of other kind, with a nonzero byte 1 to 3, of size 0, or a new record with an address
  *    5  a new record right after a new one
- *    6  the sizes pass 16,777,216 at this record
+ *    6  the sizes pass the version's length (in measure, rebuild and check: 16,777,216) at this record; or, in partition and pass,
+ *       they end short of it (place: the number of records)
  *    7  a match runs beyond the store
+ *    8  a match's bytes differ from the version
  *   the disk
  *   10  the stored block is not as long as the new sizes together
  */
@@ -123,6 +126,42 @@ uint32_t check(const uint8_t *list, size_t list_len,
                const uint8_t *store, size_t store_len,
                uint32_t k,
                uint8_t *answer, size_t answer_len);
+
+/* partition - the list that costs least.
+ *
+ * Does: of all ways to keep each match or to store its bytes again, takes the one whose list costs least at the price of E and F, new
+ *   records that come to stand next to each other fused; of several that cost the same, the one that keeps at the first record where
+ *   they differ.
+ * Areas: list, of version against store; choice, 1 byte for each record; list_area, as long as list; block_area, as long as version.
+ * Writes: the first bytes of choice, one for each record (0 kept as match, 1 new); the first bytes of list_area, the new list, 12 for
+ *   each of its entries; the first bytes of block_area, its stored block; bytes beyond are unchanged. answer (cost, entries and stored
+ *   bytes of the new list).
+ * Refuses, in this order: 1 at 0; 2 at 0; 3 at 0; 9 at 0; record by record 4, 5, 6, 7, 8 at the record; 6 at the number of records.
+ * On refusal: answer holds number and place; choice, list_area and block_area are unchanged.
+ * Returns: the number. */
+uint32_t partition(uint32_t e, uint32_t f,
+                   const uint8_t *list, size_t list_len,
+                   const uint8_t *version, size_t version_len,
+                   const uint8_t *store, size_t store_len,
+                   uint8_t *choice, size_t choice_len,
+                   uint8_t *list_area, size_t list_area_len,
+                   uint8_t *block_area, size_t block_area_len,
+                   uint8_t *answer, size_t answer_len);
+
+/* pass - the published linear method, look by look.
+ *
+ * Does: goes through the list with one mark, and merges a short match into new neighbours, or two short matches into a new record, as
+ *   document 01 writes the four merges out; one look at a record at a time, at most 2n - 1 of them for n records.
+ * Areas, writes, refuses, on refusal, returns: as for partition. answer also gives the looks. The list costs no less than partition's
+ *   and no more than the one handed in. */
+uint32_t pass(uint32_t e, uint32_t f,
+              const uint8_t *list, size_t list_len,
+              const uint8_t *version, size_t version_len,
+              const uint8_t *store, size_t store_len,
+              uint8_t *choice, size_t choice_len,
+              uint8_t *list_area, size_t list_area_len,
+              uint8_t *block_area, size_t block_area_len,
+              uint8_t *answer, size_t answer_len);
 
 #ifdef __cplusplus
 }

@@ -23,33 +23,9 @@
 
 /* ---- The calls ---- */
 
-/* Where the library has no partition or pass yet, the reference stands in: its laws are tested, its calls are not counted. */
-#ifdef HAVE_PARTITION
-#define PARTITION_COUNTS 1
-extern uint32_t partition(uint32_t e, uint32_t f, const uint8_t *list, size_t list_len,
-                          const uint8_t *version, size_t version_len, const uint8_t *store, size_t store_len,
-                          uint8_t *choice, size_t choice_len, uint8_t *list_area, size_t list_area_len,
-                          uint8_t *block_area, size_t block_area_len, uint8_t *answer, size_t answer_len);
-#else
-#define PARTITION_COUNTS 0
-#define partition ref_partition
-#endif
-
-#ifdef HAVE_PASS
-#define PASS_COUNTS 1
-extern uint32_t pass(uint32_t e, uint32_t f, const uint8_t *list, size_t list_len,
-                     const uint8_t *version, size_t version_len, const uint8_t *store, size_t store_len,
-                     uint8_t *choice, size_t choice_len, uint8_t *list_area, size_t list_area_len,
-                     uint8_t *block_area, size_t block_area_len, uint8_t *answer, size_t answer_len);
-#else
-#define PASS_COUNTS 0
-#define pass ref_pass
-#endif
-
 enum { MEASURE, REBUILD, CHECK, PARTITION, PASS, CALLS };
 
 static const char *const call_name[CALLS] = { "measure", "rebuild", "check", "partition", "pass" };
-static const int counts[CALLS] = { 1, 1, 1, PARTITION_COUNTS, PASS_COUNTS };
 
 /* How many of each case. */
 enum { SMALL_CASES = 1000000, MIDDLE_CASES = 8000, FULL_CASES = 60, BRUTE_RECORDS = 10 };
@@ -1071,10 +1047,10 @@ static void print_table(void)
         printf(" %7d", column);
     printf(" %7s %7s\n", "6 end", "9 ans");
     for (int call = 0; call < CALLS; call++) {
-        printf("%-9s  %8" PRIu64 " |", call_name[call], counts[call] ? compared[call] : 0);
+        printf("%-9s  %8" PRIu64 " |", call_name[call], compared[call]);
         for (int column = 0; column < COLUMNS; column++)
             printf(" %7" PRIu64, reached[call][column]);
-        printf("%s\n", counts[call] ? "" : "  (not in the library: the reference alone)");
+        printf("\n");
     }
     printf("short lists with another choice as cheap: %" PRIu64 "; passes dearer than partition: %" PRIu64 "\n", ties,
            dearer_passes);
@@ -1118,7 +1094,7 @@ int main(int argc, char **argv)
     print_table();
     uint64_t calls = 0;
     for (int call = 0; call < CALLS; call++)
-        calls += counts[call] ? compared[call] : 0;
+        calls += compared[call];
     if (zeros[0] != 0 || memcmp(zeros, zeros + 1, STORE_MOST) != 0) {
         puts("differential: the long store was written to");
         return 1;
