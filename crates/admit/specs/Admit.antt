@@ -44,6 +44,10 @@ admitRuling e f list v st c a b =
     then walkRuling (checks scope.Version v st) list
     then need (eqb (whole (recordsOf list)) (length v)) Sizes (length (recordsOf list))
 
+-- the checks, where areas are lent for choice, list and stored block
+abbrev pub divideRuling : ℕ → ℕ → List ℕ → List ℕ → List ℕ → List ℕ → List ℕ → List ℕ → Ruling
+divideRuling e f list v st choice area block = admitRuling e f list v st (length choice) (length area) (length block)
+
 -- the price of an entry, or the refusal
 abbrev pub admitted : Ruling → ℕ → Admitted
 admitted Fine p = At (record { 0 = p })

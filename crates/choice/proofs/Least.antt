@@ -12,7 +12,7 @@ use Rattle.format.specs.declared.Record.{Record}
 use Rattle.format.specs.declared.Record.the-variants.{New, Match}
 use Rattle.format.specs.Meaning.{sizeOf, stored}
 use Rattle.price.specs.Price.{cost}
-use Rattle.choice.specs.Choice.{Bit, keep, store, Free, only, either, freedom, May, IsChoice, choices, fuse, join, chosenRecord, listOf, costOf, firstOf, firstMin, least, Early, IsLeast}
+use Rattle.choice.specs.Choice.{Bit, keep, store, Free, only, either, freedom, May, IsChoice, choices, fuse, join, chosenRecord, listOf, costOf, firstOf, firstMin, least, Early, IsLeast, keepAll}
 use Rattle.choice.proofs.Path.{Beats, walk, best, pick, first, walk-pick, pick-is-first, pick-fits, pick-beats, best-least, pick-first, first-fits, choices-cong, le-beats, early-antisym}
 
 abbrev pub after : Record → Bit → Bit
@@ -157,3 +157,18 @@ again price rs = least-pick price l ∙ pick-first after (step price) l keep (om
 
 pub again-list : (price : ℕ) (rs : List Record) → listOf (listOf rs (least price rs)) (least price (listOf rs (least price rs))) ≡ listOf rs (least price rs)
 again-list price rs = rw again (first-list rs (least price rs) (least-fits price rs))
+
+first-keeps : (l : List Record) → first l ≡ keepAll l
+first-keeps [] = refl
+first-keeps (New s ∷ l) = ap (λ (c : List Bit). store ∷ c) (first-keeps l)
+first-keeps (Match s a ∷ l) = ap (λ (c : List Bit). keep ∷ c) (first-keeps l)
+
+-- the least choice of a partitioned list keeps all its matches
+pub again-keeps : (price : ℕ) (rs : List Record) → least price (listOf rs (least price rs)) ≡ keepAll (listOf rs (least price rs))
+again-keeps price rs = again price rs ∙ first-keeps (listOf rs (least price rs))
+
+-- a choice that keeps all leaves a list without new neighbours as it was
+pub keepAll-is-choice : (l : List Record) → IsChoice l (keepAll l)
+keepAll-is-choice [] = tt
+keepAll-is-choice (New s ∷ l) = (refl, keepAll-is-choice l)
+keepAll-is-choice (Match s a ∷ l) = (tt, keepAll-is-choice l)

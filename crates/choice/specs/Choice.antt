@@ -137,3 +137,9 @@ pub record IsLeast (p : ℕ) (rs : List Record) (c : List Bit) : Type 0 where
   pub choice : IsChoice rs c
   pub cheapest : (d : List Bit) → IsChoice rs d → costOf p rs c ≤ costOf p rs d
   pub foremost : (d : List Bit) → IsChoice rs d → costOf p rs d ≡ costOf p rs c → Early c d
+
+-- 0 for each match and 1 for each new record
+abbrev pub keepAll : List Record → List Bit
+keepAll [] = []
+keepAll (New s ∷ l) = store ∷ keepAll l
+keepAll (Match s a ∷ l) = keep ∷ keepAll l

@@ -7,7 +7,7 @@ ghost use lib.ListN.{length};
 ghost use Rattle.price.specs.Price.{measured};
 ghost use Rattle.rebuild.specs.Rebuild.{checked, rebuildAnswer, rebuildArea};
 ghost use Rattle.controller.specs.Layout.{toldOf, layout, given, Answered, lentArea};
-ghost use Rattle.controller.specs.Divides.{PartitionGiven};
+ghost use Rattle.controller.specs.Divides.{PartitionGiven, PassGiven};
 
 use format::Answer;
 
@@ -136,6 +136,17 @@ pub extern "C" fn partition(e: u32, f: u32, list: &[u8], version: &[u8], store: 
         return 9;
     }
     give(least::partition(e, f, list, version, store, choice, area, block), answer)
+}
+
+// Pass.
+#[no_mangle]
+pub extern "C" fn pass(e: u32, f: u32, list: &[u8], version: &[u8], store: &[u8], choice: &mut [u8], area: &mut [u8], block: &mut [u8], answer: &mut [u8]) -> u32
+    ensures { λ r. ⌜ PassGiven e f (now (list .entry)) (now (version .entry)) (now (store .entry)) (now (choice .entry)) (now (area .entry)) (now (block .entry)) (now (answer .entry)) r (now (choice .exit)) (now (area .exit)) (now (block .exit)) (now (answer .exit)) ⌝ }
+{
+    if answer.len() < 32 {
+        return 9;
+    }
+    give(linear::pass(e, f, list, version, store, choice, area, block), answer)
 }
 
 // Check.

@@ -2,17 +2,11 @@
 -- Assumes nothing.
 use Prim.Native.Nat.{ℕ}
 use mathlib.Core.List.{List}
-use lib.ListN.{length}
 use Rattle.format.specs.declared.Answer.{Answer}
-use Rattle.format.specs.declared.Ruling.{Ruling}
 use Rattle.format.specs.Record.{recordsOf}
 use Rattle.price.specs.Price.{priceOf}
 use Rattle.choice.specs.Choice.{Bit, least}
-use Rattle.admit.specs.Admit.{admitRuling, Divided}
-
--- the checks, for areas of choice, list and stored block
-abbrev pub partitionRuling : ℕ → ℕ → List ℕ → List ℕ → List ℕ → List ℕ → List ℕ → List ℕ → Ruling
-partitionRuling e f list v st choice area block = admitRuling e f list v st (length choice) (length area) (length block)
+use Rattle.admit.specs.Admit.{divideRuling, Divided}
 
 -- the least choice for a list of bytes
 abbrev pub leastOf : ℕ → ℕ → List ℕ → List Bit
@@ -21,4 +15,4 @@ leastOf e f list = least (priceOf e f) (recordsOf list)
 -- the least choice, its list and its stored block; the answer carries its cost, entries and stored bytes
 abbrev pub Partitioned : ℕ → ℕ → List ℕ → List ℕ → List ℕ → List ℕ → List ℕ → List ℕ → Answer → List ℕ → List ℕ → List ℕ → Type 0
 Partitioned e f list v st choice area block r choice′ area′ block′ =
-    Divided (partitionRuling e f list v st choice area block) (priceOf e f) list v choice area block (leastOf e f list) 0 r choice′ area′ block′
+    Divided (divideRuling e f list v st choice area block) (priceOf e f) list v choice area block (leastOf e f list) 0 r choice′ area′ block′

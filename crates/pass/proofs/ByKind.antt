@@ -1,0 +1,78 @@
+-- An item by its kind and size, and the first rule that applies by kinds.
+-- Assumes nothing.
+use Prim.Native.Nat.{ℕ, _+_, _≤_}
+use native.Mathlib.Omega.{arith}
+use mathlib.Core.Path.{_≡_, refl, sym, ap, _∙_}
+use mathlib.Core.Bool.{Bool, true, false, not, _&&_, cond}
+use lib.Dec.{eqb}
+use borrow.Author.Tests.{eqb-true}
+use Rattle.pass.specs.declared.Merge.the-variants.{Both, Before, After, Pair}
+use Rattle.pass.specs.declared.Outcome.{Outcome}
+use Rattle.pass.specs.declared.Outcome.the-variants.{Advance, Merged}
+use Rattle.pass.specs.Pass.{Item, new, match, neither, mark, size, isNew, isMatch, Tests, outcomeAt}
+use Rattle.pass.specs.Machine.{itemOf, reach}
+
+pub size-item : (k s : ℕ) → size (itemOf k s) ≡ s
+size-item k s = go (eqb k 0) (eqb k 1)
+  where
+    go : (a b : Bool) → size (cond a (new s) (cond b (match s) (neither s))) ≡ s
+    go true b = refl
+    go false true = refl
+    go false false = refl
+
+pub new-item : (k s : ℕ) → isNew (itemOf k s) ≡ eqb k 0
+new-item k s = go (eqb k 0) (eqb k 1)
+  where
+    go : (a b : Bool) → isNew (cond a (new s) (cond b (match s) (neither s))) ≡ a
+    go true b = refl
+    go false true = refl
+    go false false = refl
+
+pub and-false : (a : Bool) → (a && false) ≡ false
+and-false true = refl
+and-false false = refl
+
+pub not-one-of-zero : (k : ℕ) → k ≡ 0 → eqb k 1 ≡ false
+not-one-of-zero k e = ap (λ (y : ℕ). eqb y 1) e
+
+pub match-item : (k s : ℕ) → isMatch (itemOf k s) ≡ eqb k 1
+match-item k s = go (eqb k 0) refl (eqb k 1) refl
+  where
+    go : (a : Bool) → eqb k 0 ≡ a → (b : Bool) → eqb k 1 ≡ b → isMatch (cond a (new s) (cond b (match s) (neither s))) ≡ b
+    go true e b d = sym (not-one-of-zero k (eqb-true k 0 e)) ∙ d
+    go false e true d = refl
+    go false e false d = refl
+
+pub item-of-zero : (k s : ℕ) → k ≡ 0 → itemOf k s ≡ new s
+item-of-zero k s e = ap (λ (j : ℕ). itemOf j s) e
+
+pub item-of-one : (k s : ℕ) → k ≡ 1 → itemOf k s ≡ match s
+item-of-one k s e = ap (λ (j : ℕ). itemOf j s) e
+
+-- the rules by kinds
+abbrev pub outcomeBy : Tests → ℕ → ℕ → ℕ → ℕ → ℕ → ℕ → Item → Outcome
+outcomeBy t kb sb k s ka sa c =
+    cond (eqb k 1 && eqb kb 0 && eqb ka 0 && t .lone s) (Merged (Both (sb + s + sa)))
+    (cond (eqb k 1 && eqb kb 0 && t .side s) (Merged (Before (sb + s)))
+    (cond (eqb k 1 && eqb ka 0 && t .side s) (Merged (After (s + sa)))
+    (cond (eqb k 1 && eqb ka 1 && not (eqb kb 0) && not (isNew c) && t .pair (s + sa)) (Merged (Pair (s + sa)))
+    Advance)))
+
+pub outcome-by : (t : Tests) (kb sb k s ka sa : ℕ) (c : Item) → outcomeBy t kb sb k s ka sa c ≡ outcomeAt t (itemOf kb sb) (itemOf k s) (itemOf ka sa) c
+outcome-by t kb sb k s ka sa c = simp (new-item, match-item, size-item)
+
+-- what is no match is passed by
+pub outcome-no-match : (t : Tests) (b p a c : Item) → isMatch p ≡ false → outcomeAt t b p a c ≡ Advance
+outcome-no-match t b p a c h = simp h
+
+-- next to the rear mark no merge reaches beyond p
+pub reach-mark : (t : Tests) (b p c : Item) → reach (outcomeAt t b p mark c) ≤ 1
+reach-mark t b (new s) c = omega arith
+reach-mark t b (neither s) c = omega arith
+reach-mark t (new a) (match s) c = go (t .side s)
+  where
+    go : (v : Bool) → reach (cond v (Merged (Before (a + s))) Advance) ≤ 1
+    go true = omega arith
+    go false = omega arith
+reach-mark t (match a) (match s) c = omega arith
+reach-mark t (neither a) (match s) c = omega arith

@@ -1,0 +1,13 @@
+pub mod Fusing
+pub mod Looks
+pub mod Running
+pub mod Recovering
+pub mod Theorems
+pub mod SheetsHold
+pub mod Gap
+pub mod ByKind
+pub mod Carrying
+pub mod Rounds
+pub mod Loading
+pub mod Reading
+pub mod Passing

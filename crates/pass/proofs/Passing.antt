@@ -1,0 +1,33 @@
+-- From the list loaded to the pass's looks and items.
+-- Assumes nothing.
+use Prim.Native.Nat.{ℕ, _≤_}
+use native.Mathlib.Omega.{arith}
+use mathlib.Core.Path.{_≡_, refl, ap, _∙_}
+use mathlib.Core.List.{List, []}
+use lib.ListN.{length}
+use Rattle.format.specs.declared.Record.{Record}
+use Rattle.format.specs.Limits.{versionMost}
+use Rattle.format.specs.Meaning.{whole}
+use Rattle.pass.specs.declared.Machine.{Machine}
+use Rattle.pass.specs.declared.Passed.{Passed}
+use Rattle.pass.specs.Pass.{Item, items, bytes, rest, joined, testsOf, pass, endItems, passOutcomes, passLooks, passItems}
+use Rattle.pass.specs.Machine.{rightOf, endOf, Loaded, Runnable, Ran}
+use Rattle.pass.proofs.Theorems.{bytes-items}
+
+module _ (price : ℕ) (rs : List Record) (m : Machine) where
+  pub runnable-of-loaded : price ≤ 16711425 → Loaded m (items rs) → whole rs ≤ versionMost → Runnable price m
+  runnable-of-loaded p h w =
+      record {
+        price-most = p;
+        loaded = record { gap = h .gap; within = h .within; rear = h .rear; front = h .front; holds = refl };
+        fits = omega (arith, ap bytes (h .holds), bytes-items rs);
+      }
+
+  module _ (r : Passed) (h : Loaded m (items rs)) (v : Ran price (rightOf m) r) where
+    pub looks-of-ran : r .looks ≡ passLooks price rs
+    unfolding passOutcomes
+    looks-of-ran = v .looks-are ∙ ap (λ (xs : List Item). length (pass (testsOf price) xs .outcomes)) (h .holds)
+
+    pub end-of-ran : endOf (r .list) ≡ passItems price rs
+    unfolding endItems
+    end-of-ran = ap (λ (l : List Item). rest (joined l [])) (v .list-is ∙ ap (λ (xs : List Item). pass (testsOf price) xs .end .left) (h .holds))

@@ -1,0 +1,65 @@
+-- A list that some records were fused into is the list of the choice that it stands for.
+-- Assumes nothing.
+use Prim.Native.Nat.{ℕ, zero, suc, _+_, _-_, _≤_, _<_}
+use native.Mathlib.Omega.{arith}
+use mathlib.Core.Path.{_≡_, refl, ap}
+use mathlib.Core.Bool.{true, false}
+use mathlib.Core.List.{List, [], _∷_}
+use lib.Dec.{ltb}
+use borrow.Author.Tests.{lt-ltb, le-ltb}
+use Rattle.format.specs.declared.Record.{Record}
+use Rattle.format.specs.declared.Record.the-variants.{New, Match}
+use Rattle.format.specs.WellFormed.{Sized}
+use Rattle.choice.specs.Choice.{IsChoice, fuse, listOf}
+use Rattle.pass.specs.Pass.{Item, new, match, neither, size, isNew, first, items, cut, choiceOf}
+use Rattle.pass.proofs.Fusing.{Tidy, Fuses, none, takeNew, takeMatch, moreNew, moreMatch, keepMatch}
+
+items-fuse : (s : ℕ) (l : List Record) (is : List Item) → items l ≡ is → isNew (first is) ≡ false → items (fuse s l) ≡ new s ∷ is
+items-fuse s [] is e n = cc
+items-fuse s (New t ∷ l) is e n = cc
+items-fuse s (Match t a ∷ l) is e n = cc
+
+items-fuse-new : (s t : ℕ) (l : List Record) (is : List Item) → items l ≡ new t ∷ is → items (fuse s l) ≡ new (s + t) ∷ is
+items-fuse-new s t [] is e = cc
+items-fuse-new s t (New u ∷ l) is e = cc
+items-fuse-new s t (Match u a ∷ l) is e = cc
+
+cut-all : (s : ℕ) (i : Item) (is : List Item) → size i ≡ s → cut s i is ≡ is
+cut-all s i is e = rw (le-ltb s (size i) (omega arith))
+
+cut-some : (s t : ℕ) (is : List Item) → 0 < t → cut s (new (s + t)) is ≡ new t ∷ is
+cut-some s t is h = let e : s + t - s ≡ t = omega arith in rw (lt-ltb s (s + t) (omega arith), e)
+
+size-fused : (rs : List Record) {s : ℕ} {is : List Item} → Sized rs → Fuses (items rs) (new s ∷ is) → 0 < s
+size-fused (New a ∷ rs) h (takeNew d) = h .0
+size-fused (New a ∷ rs) h (moreNew d) = omega (arith, h .0)
+size-fused (Match a x ∷ rs) h (takeMatch d) = h .0
+size-fused (Match a x ∷ rs) h (moreMatch d) = omega (arith, h .0)
+
+pub record Recovered (rs : List Record) (is : List Item) : Type 0 where
+  pub choice : IsChoice rs (choiceOf rs is)
+  pub listed : items (listOf rs (choiceOf rs is)) ≡ is
+
+pub recovered : (rs : List Record) (is : List Item) → Sized rs → Tidy is → Fuses (items rs) is → Recovered rs is
+unfolding choiceOf
+recovered [] is h n none = record { choice = tt; listed = refl }
+recovered (New s ∷ rs) is h n (takeNew {ys} d) =
+    let i : Recovered rs ys = recovered rs ys (h .1) (n .1) d in
+    let e : cut s (new s) ys ≡ ys = cut-all s (new s) ys refl in
+    record { choice = (refl, rw e (i .choice)); listed = rw e (items-fuse s (listOf rs (choiceOf rs ys)) ys (i .listed) (n .0)) }
+recovered (New s ∷ rs) is h n (moreNew {b} {ys} d) =
+    let i : Recovered rs (new b ∷ ys) = recovered rs (new b ∷ ys) (h .1) n d in
+    let e : cut s (new (s + b)) ys ≡ new b ∷ ys = cut-some s b ys (size-fused rs (h .1) d) in
+    record { choice = (refl, rw e (i .choice)); listed = rw e (items-fuse-new s b (listOf rs (choiceOf rs (new b ∷ ys))) ys (i .listed)) }
+recovered (Match s a ∷ rs) is h n (keepMatch {ys} d) =
+    let i : Recovered rs ys = recovered rs ys (h .1) n d in
+    let e : cut s (match s) ys ≡ ys = cut-all s (match s) ys refl in
+    record { choice = (tt, rw e (i .choice)); listed = rw e (ap (λ (l : List Item). match s ∷ l) (i .listed)) }
+recovered (Match s a ∷ rs) is h n (takeMatch {ys} d) =
+    let i : Recovered rs ys = recovered rs ys (h .1) (n .1) d in
+    let e : cut s (new s) ys ≡ ys = cut-all s (new s) ys refl in
+    record { choice = (tt, rw e (i .choice)); listed = rw e (items-fuse s (listOf rs (choiceOf rs ys)) ys (i .listed) (n .0)) }
+recovered (Match s a ∷ rs) is h n (moreMatch {b} {ys} d) =
+    let i : Recovered rs (new b ∷ ys) = recovered rs (new b ∷ ys) (h .1) n d in
+    let e : cut s (new (s + b)) ys ≡ new b ∷ ys = cut-some s b ys (size-fused rs (h .1) d) in
+    record { choice = (tt, rw e (i .choice)); listed = rw e (items-fuse-new s b (listOf rs (choiceOf rs (new b ∷ ys))) ys (i .listed)) }

@@ -1,0 +1,60 @@
+-- `pass::after_new` meets its contract: each way out is the first rule that applies there, by kinds. Assumes nothing.
+use Prim.Native.Nat.{_+_, _*_, _≤_}
+use native.Mathlib.Omega.{arith}
+use mathlib.Core.Path.{_≡_, refl, sym, ap₂, _∙_}
+use borrow.Author.Tests.{eq-eqb, ne-eqb, lt-ltb, le-ltb}
+use Rattle.pass.specs.declared.Merge.the-variants.{Both, Before}
+use Rattle.pass.specs.declared.Outcome.the-variants.{Advance, Merged}
+use Rattle.pass.specs.Pass.{testsOf}
+use Rattle.pass.proofs.ByKind.{and-false, not-one-of-zero, outcomeBy, outcome-by}
+use borrow.Author.Needs.{needs}
+use Rattle.pass.proofs.after_new.Statement.{statement}
+use Rattle.pass.proofs.after_new.Tie as tie
+
+mul-if2 : tie.Need-mul-if2
+mul-if2 c = search needs
+
+add-t8 : tie.Need-add-t8
+add-t8 c = search needs
+
+add-t9 : tie.Need-add-t9
+add-t9 c = search needs
+
+returns : tie.Need-returns
+returns c =
+    let g = c .before .before .before .before .args in
+    let t = testsOf (g .price) in
+    λ second.
+    let is : outcomeBy t 0 (g .before) 1 (g .size) (g .after .kind) (g .after .size) second ≡ Merged (Both (g .before + g .size + g .after .size)) = simp (eq-eqb (g .after .kind) 0 (omega arith), lt-ltb (g .size) (2 * g .price) (omega arith)) in
+    sym is ∙ outcome-by t 0 (g .before) 1 (g .size) (g .after .kind) (g .after .size) second
+
+returns-2 : tie.Need-returns-2
+returns-2 c =
+    let g = c .before .before .before .args in
+    let t = testsOf (g .price) in
+    λ second.
+    let is : outcomeBy t 0 (g .before) 1 (g .size) (g .after .kind) (g .after .size) second ≡ Advance = simp (eq-eqb (g .after .kind) 0 (omega arith), le-ltb (g .size) (2 * g .price) (omega arith), le-ltb (g .size) (g .price) (omega arith), not-one-of-zero _ (c .before .if1 .taken)) in
+    sym is ∙ outcome-by t 0 (g .before) 1 (g .size) (g .after .kind) (g .after .size) second
+
+add-t11 : tie.Need-add-t11
+add-t11 c = search needs
+
+returns-3 : tie.Need-returns-3
+returns-3 c =
+    let g = c .before .before .before .args in
+    let t = testsOf (g .price) in
+    λ second.
+    let is : outcomeBy t 0 (g .before) 1 (g .size) (g .after .kind) (g .after .size) second ≡ Merged (Before (g .before + g .size)) = simp (ne-eqb (g .after .kind) 0 (omega arith), lt-ltb (g .size) (g .price) (omega arith)) in
+    sym is ∙ outcome-by t 0 (g .before) 1 (g .size) (g .after .kind) (g .after .size) second
+
+returns-4 : tie.Need-returns-4
+returns-4 c =
+    let g = c .before .before .before .args in
+    let t = testsOf (g .price) in
+    λ second.
+    let is : outcomeBy t 0 (g .before) 1 (g .size) (g .after .kind) (g .after .size) second ≡ Advance = simp (ne-eqb (g .after .kind) 0 (omega arith), le-ltb (g .size) (g .price) (omega arith), and-false) in
+    sym is ∙ outcome-by t 0 (g .before) 1 (g .size) (g .after .kind) (g .after .size) second
+
+pub after-new-spec : {M : Type 1} → statement M
+after-new-spec =
+    tie.close (tie.spec mul-if2 add-t8 add-t9 returns returns-2 add-t11 returns-3 returns-4)

@@ -1,0 +1,3 @@
+pub mod Pass
+pub mod Machine
+pub mod Sheets

@@ -1,0 +1,212 @@
+-- Document 01, "Pass": the linear method as a machine. The carried list with its marks, one look, the run of looks, and what a caller gets:
+-- the outcomes of the looks, their number, the list at the end, and the choice that this list stands for.
+-- Assumes nothing.
+use Prim.Native.Nat.{ℕ, zero, suc, _+_, _-_, _*_, _≤_}
+use mathlib.Core.Bool.{Bool, true, false, not, _&&_, cond}
+use mathlib.Core.List.{List, [], _∷_}
+use lib.Dec.{ltb}
+use lib.ListN.{length}
+use Rattle.format.specs.declared.Record.{Record}
+use Rattle.format.specs.declared.Record.the-variants.{New, Match}
+use Rattle.format.specs.Limits.{versionMost, listMost}
+use Rattle.format.specs.Record.{recordsOf}
+use Rattle.format.specs.Meaning.{sizeOf, whole}
+use Rattle.format.specs.WellFormed.{Sized, Apart}
+use Rattle.choice.specs.Choice.{Bit, keep, store}
+use Rattle.pass.specs.declared.Merge.{Merge}
+use Rattle.pass.specs.declared.Merge.the-variants.{Both, Before, After, Pair}
+use Rattle.pass.specs.declared.Outcome.{Outcome}
+use Rattle.pass.specs.declared.Outcome.the-variants.{Advance, Merged}
+
+-- ---- the list: "a record of kinds and sizes .. with a front and a rear mark, both of neither kind"
+
+pub data Item : Type 0 where
+  new : ℕ → Item
+  match : ℕ → Item
+  neither : ℕ → Item
+
+-- the front mark and the rear mark
+abbrev pub mark : Item
+mark = neither 0
+
+abbrev pub size : Item → ℕ
+size (new s) = s
+size (match s) = s
+size (neither s) = s
+
+abbrev pub isNew : Item → Bool
+isNew (new s) = true
+isNew (match s) = false
+isNew (neither s) = false
+
+abbrev pub isMatch : Item → Bool
+isMatch (new s) = false
+isMatch (match s) = true
+isMatch (neither s) = false
+
+-- a record by its kind and size
+abbrev pub itemFor : Record → Item
+itemFor (New s) = new s
+itemFor (Match s a) = match s
+
+abbrev pub items : List Record → List Item
+items [] = []
+items (r ∷ rs) = itemFor r ∷ items rs
+
+-- bytes covered
+abbrev pub bytes : List Item → ℕ
+bytes [] = 0
+bytes (x ∷ l) = size x + bytes l
+
+-- where p stands: `left` is what comes before p, the nearest first; `right` is p and what comes after it, without the rear mark, so it is
+-- empty where p is the rear
+pub record State : Type 0 where
+  pub left : List Item
+  pub right : List Item
+
+-- the first of some items, a mark where there is none
+abbrev pub first : List Item → Item
+first [] = mark
+first (x ∷ l) = x
+
+abbrev pub rest : List Item → List Item
+rest [] = []
+rest (x ∷ l) = l
+
+-- ---- a look: "the first that applies is done"
+
+-- the sizes that the merges take: `lone` in merge 1, `side` in merges 2 and 3, `pair` in merge 4, of both sizes together
+pub record Tests : Type 0 where
+  pub lone : ℕ → Bool
+  pub side : ℕ → Bool
+  pub pair : ℕ → Bool
+
+-- "size < 2P", "size < P", "the two sizes together < P"
+abbrev pub testsOf : ℕ → Tests
+testsOf p = record { lone = λ s. ltb s (2 * p); side = λ s. ltb s p; pair = λ s. ltb s p }
+
+-- rules 1 to 5 in their order, for p with b before it, a after it and c second after it; a merge with the bytes that it fuses
+abbrev pub outcomeAt : Tests → Item → Item → Item → Item → Outcome
+outcomeAt t b p a c =
+    cond (isMatch p && isNew b && isNew a && t .lone (size p)) (Merged (Both (size b + size p + size a)))
+    (cond (isMatch p && isNew b && t .side (size p)) (Merged (Before (size b + size p)))
+    (cond (isMatch p && isNew a && t .side (size p)) (Merged (After (size p + size a)))
+    (cond (isMatch p && isMatch a && not (isNew b) && not (isNew c) && t .pair (size p + size a)) (Merged (Pair (size p + size a)))
+    Advance)))
+
+-- "p goes to the one before": the nearest of l, with r after it
+abbrev pub stepBack : List Item → List Item → State
+stepBack [] r = record { left = []; right = r }
+stepBack (x ∷ l) r = record { left = l; right = x ∷ r }
+
+-- what an outcome makes of the list, with l before p and r after it; the record made is new and has the bytes fused
+abbrev pub after : Outcome → List Item → Item → List Item → State
+after (Merged (Both s)) l p r = record { left = new s ∷ rest l; right = rest r }
+after (Merged (Before s)) l p r = record { left = new s ∷ rest l; right = r }
+after (Merged (After s)) l p r = stepBack l (new s ∷ rest r)
+after (Merged (Pair s)) l p r = stepBack l (new s ∷ rest r)
+after Advance l p r = record { left = p ∷ l; right = r }
+
+pub record Look : Type 0 where
+  pub outcome : Outcome
+  pub next : State
+
+abbrev pub ended : Outcome → List Item → Item → List Item → Look
+ended o l p r = record { outcome = o; next = after o l p r }
+
+-- one look at p, with l before it and r after it
+abbrev pub lookAt : Tests → List Item → Item → List Item → Look
+lookAt t l p r = ended (outcomeAt t (first l) p (first r) (first (rest r))) l p r
+
+-- 1 for a merge
+abbrev pub mergeIn : Outcome → ℕ
+mergeIn Advance = 0
+mergeIn (Merged m) = 1
+
+-- the merges among some outcomes
+abbrev pub mergesIn : List Outcome → ℕ
+mergesIn [] = 0
+mergesIn (o ∷ os) = mergeIn o + mergesIn os
+
+-- ---- the run: "while p is not the rear, one look is counted, front mark included"
+
+-- where the looks end, and how each of them ended, in their order
+pub record Run : Type 0 where
+  pub end : State
+  pub outcomes : List Outcome
+
+abbrev pub stopped : List Item → List Item → Run
+stopped l r = record { end = record { left = l; right = r }; outcomes = [] }
+
+abbrev pub preceded : Outcome → Run → Run
+preceded o r = record { end = r .end; outcomes = o ∷ r .outcomes }
+
+-- looks until p is the rear, at most `fuel` of them
+unfoldable pub run : Tests → ℕ → List Item → List Item → Run
+run t zero l r = stopped l r
+run t (suc fuel) l [] = stopped l []
+run t (suc fuel) l (p ∷ r) =
+    let s : Look = lookAt t l p r in
+    preceded (s .outcome) (run t fuel (s .next .left) (s .next .right))
+
+-- "p starts at the first record, or at the rear if there is none"; 2n looks are enough (`pass-ends`)
+unfoldable pub pass : Tests → List Item → Run
+unfolding run
+pass t xs = run t (2 * length xs) (mark ∷ []) xs
+
+-- the whole list of a state
+abbrev pub joined : List Item → List Item → List Item
+joined [] r = r
+joined (x ∷ l) r = joined l (x ∷ r)
+
+-- the list at the end, without its front mark
+unfoldable pub endItems : Tests → List Item → List Item
+unfolding pass
+endItems t xs = rest (joined (pass t xs .end .left) [])
+
+-- ---- what a caller gets, at the price p of an entry
+
+-- how each look ended
+unfoldable pub passOutcomes : ℕ → List Record → List Outcome
+unfolding pass
+passOutcomes p rs = pass (testsOf p) (items rs) .outcomes
+
+-- the number of looks
+abbrev pub passLooks : ℕ → List Record → ℕ
+passLooks p rs = length (passOutcomes p rs)
+
+-- the pass's list, by kinds and sizes
+abbrev pub passItems : ℕ → List Record → List Item
+passItems p rs = endItems (testsOf p) (items rs)
+
+-- an item without its first s bytes
+abbrev pub shrunk : Item → ℕ → Item
+shrunk (new t) s = new (t - s)
+shrunk (match t) s = match (t - s)
+shrunk (neither t) s = neither (t - s)
+
+-- items without their first s bytes, which are no more than the item i has
+abbrev pub cut : ℕ → Item → List Item → List Item
+cut s i is = cond (ltb s (size i)) (shrunk i s ∷ is) is
+
+abbrev pub bitFor : Item → Bit
+bitFor i = cond (isNew i) store keep
+
+-- the choice that items stand for: each record is as the item is that covers it
+unfoldable pub choiceOf : List Record → List Item → List Bit
+choiceOf [] is = []
+choiceOf (r ∷ rs) [] = []
+choiceOf (r ∷ rs) (i ∷ is) = bitFor i ∷ choiceOf rs (cut (sizeOf r) i is)
+
+-- the pass's choice: its list is `listOf` of it, and by kinds and sizes `passItems` (`pass-holds`)
+abbrev pub passChoice : ℕ → List Record → List Bit
+passChoice p rs = choiceOf rs (passItems p rs)
+
+-- what the call asks for: a price and a list that were accepted, and a byte for each record
+pub record Passable (price : ℕ) (list choice : List ℕ) : Type 0 where
+  pub price-most : price ≤ 16711425
+  pub list-most : length list ≤ listMost
+  pub room : length (recordsOf list) ≤ length choice
+  pub sized : Sized (recordsOf list)
+  pub apart : Apart (recordsOf list)
+  pub whole-most : whole (recordsOf list) ≤ versionMost
