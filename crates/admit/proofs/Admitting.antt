@@ -73,38 +73,74 @@ pub record Sound (e f : ℕ) (list v st : List ℕ) (c a b : ℕ) : Type 0 where
   pub whole-is : whole (recordsOf list) ≡ length v
   pub well-formed : WellFormed st (recordsOf list) v
 
-pub sound-of-fine : (e f : ℕ) (list v st : List ℕ) (c a b : ℕ) → admitRuling e f list v st c a b ≡ Fine → Sound e f list v st c a b
-sound-of-fine e f list v st c a b h =
+-- each check of admitted inputs, in their order
+record Passed (e f : ℕ) (list v st : List ℕ) (c a b : ℕ) : Type 0 where
+  price : priceFits e f ≡ true
+  lengths : lengthsFit v st ≡ true
+  counts : listFits list ≡ true
+  areas : areasFit list v c a b ≡ true
+  walked : walkRuling (checks scope.Version v st) list ≡ Fine
+  ends : whole (recordsOf list) ≡ length v
+
+passed-of-fine : (e f : ℕ) (list v st : List ℕ) (c a b : ℕ) → admitRuling e f list v st c a b ≡ Fine → Passed e f list v st c a b
+passed-of-fine e f list v st c a b h =
     let last : Ruling = need (eqb (whole (recordsOf list)) (length v)) Sizes (length (recordsOf list)) in
-    let walked : Ruling = walkRuling (checks scope.Version v st) list in
+    let walk : Ruling = walkRuling (checks scope.Version v st) list in
     let nine : Ruling = need (areasFit list v c a b) AreaTooShort 0 in
     let three : Ruling = need (listFits list) ListLength 0 in
     let two : Ruling = need (lengthsFit v st) TooLong 0 in
-    let h₁ = fine-of-then (need (priceFits e f) Price 0) (two then three then nine then walked then last) h in
-    let h₂ = fine-of-then two (three then nine then walked then last) (h₁ .1) in
-    let h₃ = fine-of-then three (nine then walked then last) (h₂ .1) in
-    let h₄ = fine-of-then nine (walked then last) (h₃ .1) in
-    let h₅ = fine-of-then walked last (h₄ .1) in
-    let lengths = true-of-need (lengthsFit v st) TooLong 0 (h₂ .0) in
-    let areas = both-of-and (leb (length list / 12) c && leb (length list) a) (leb (length v) b) (true-of-need (areasFit list v c a b) AreaTooShort 0 (h₄ .0)) in
-    let pair = both-of-and (leb (length list / 12) c) (leb (length list) a) (areas .0) in
-    let w : whole (recordsOf list) ≡ length v = eqb-true (whole (recordsOf list)) (length v) (true-of-need (eqb (whole (recordsOf list)) (length v)) Sizes (length (recordsOf list)) (h₅ .1)) in
-    let each = each-of-fine (checks scope.Version v st) front (rowsOf list) (h₅ .0) in
+    let h₁ = fine-of-then (need (priceFits e f) Price 0) (two then three then nine then walk then last) h in
+    let h₂ = fine-of-then two (three then nine then walk then last) (h₁ .1) in
+    let h₃ = fine-of-then three (nine then walk then last) (h₂ .1) in
+    let h₄ = fine-of-then nine (walk then last) (h₃ .1) in
+    let h₅ = fine-of-then walk last (h₄ .1) in
     record {
-      price-fits = true-of-need (priceFits e f) Price 0 (h₁ .0);
-      lengths-fit = lengths;
-      version-most = lengths-most v st lengths .0;
-      counted = counted-of-fits list (true-of-need (listFits list) ListLength 0 (h₃ .0));
-      in-choice = leb-true (length list / 12) c (pair .0);
-      in-area = leb-true (length list) a (pair .1);
-      in-block = leb-true (length v) b (areas .1);
-      whole-is = w;
+      price = true-of-need (priceFits e f) Price 0 (h₁ .0);
+      lengths = true-of-need (lengthsFit v st) TooLong 0 (h₂ .0);
+      counts = true-of-need (listFits list) ListLength 0 (h₃ .0);
+      areas = true-of-need (areasFit list v c a b) AreaTooShort 0 (h₄ .0);
+      walked = h₅ .0;
+      ends = eqb-true (whole (recordsOf list)) (length v) (true-of-need (eqb (whole (recordsOf list)) (length v)) Sizes (length (recordsOf list)) (h₅ .1));
+    }
+
+areas-most : (list v : List ℕ) (c a b : ℕ) → areasFit list v c a b ≡ true → (length list / 12 ≤ c) × (length list ≤ a) × (length v ≤ b)
+areas-most list v c a b h =
+    let k = both-of-and (leb (length list / 12) c && leb (length list) a) (leb (length v) b) h in
+    let l = both-of-and (leb (length list / 12) c) (leb (length list) a) (k .0) in
+    (leb-true (length list / 12) c (l .0), leb-true (length list) a (l .1), leb-true (length v) b (k .1))
+
+areas-of-most : (list v : List ℕ) (c a b : ℕ) → length list / 12 ≤ c → length list ≤ a → length v ≤ b → areasFit list v c a b ≡ true
+areas-of-most list v c a b i j k =
+    and-of-both (leb (length list / 12) c && leb (length list) a) (leb (length v) b)
+    (and-of-both (leb (length list / 12) c) (leb (length list) a) (le-leb (length list / 12) c i) (le-leb (length list) a j)) (le-leb (length v) b k)
+
+pub sound-of-fine : (e f : ℕ) (list v st : List ℕ) (c a b : ℕ) → admitRuling e f list v st c a b ≡ Fine → Sound e f list v st c a b
+sound-of-fine e f list v st c a b h =
+    let p = passed-of-fine e f list v st c a b h in
+    let m = areas-most list v c a b (p .areas) in
+    let each = each-of-fine (checks scope.Version v st) front (rowsOf list) (p .walked) in
+    record {
+      price-fits = p .price;
+      lengths-fit = p .lengths;
+      version-most = lengths-most v st (p .lengths) .0;
+      counted = counted-of-fits list (p .counts);
+      in-choice = m .0;
+      in-area = m .1;
+      in-block = m .2;
+      whole-is = p .ends;
       well-formed = record {
         sized = sized-of-four front (rowsOf list) (each .0);
         apart = apart-of-five front (rowsOf list) (each .1 .0) .0;
-        agrees = agrees-of-eight v st front (rowsOf list) (each .1 .1 .0) (each .1 .1 .1 .0) (each .1 .1 .1 .1 .0) (omega arith);
+        agrees = agrees-of-eight v st front (rowsOf list) (each .1 .1 .0) (each .1 .1 .1 .0) (each .1 .1 .1 .1 .0) (omega (arith, p .ends));
       };
     }
+
+-- inputs that are admitted with some areas are admitted with longer ones
+pub fine-of-longer : (e f : ℕ) (list v st : List ℕ) (c a b c′ a′ b′ : ℕ) → admitRuling e f list v st c a b ≡ Fine → c ≤ c′ → a ≤ a′ → b ≤ b′ → admitRuling e f list v st c′ a′ b′ ≡ Fine
+fine-of-longer e f list v st c a b c′ a′ b′ h i j k =
+    let p = passed-of-fine e f list v st c a b h in
+    let m = areas-most list v c a b (p .areas) in
+    admit-fine e f list v st c′ a′ b′ (p .price) (p .lengths) (p .counts) (areas-of-most list v c′ a′ b′ (omega (arith, m .0)) (omega (arith, m .1)) (omega (arith, m .2))) (p .walked) (p .ends)
 
 -- a written list that is well formed is admitted where price, lengths and areas are
 pub fine-of-written : (e f : ℕ) (l : List Record) (v st : List ℕ) (c a b : ℕ) → priceFits e f ≡ true → lengthsFit v st ≡ true → length l ≤ 4096
@@ -112,9 +148,7 @@ pub fine-of-written : (e f : ℕ) (l : List Record) (v st : List ℕ) (c a b : �
 fine-of-written e f l v st c a b h k n p q r w =
     admit-fine e f (encode l) v st c a b h k
     (fits-encode l n)
-    (and-of-both (leb (length (encode l) / 12) c && leb (length (encode l)) a) (leb (length v) b)
-    (and-of-both (leb (length (encode l) / 12) c) (leb (length (encode l)) a) (le-leb (length (encode l) / 12) c (omega (arith, len))) (le-leb (length (encode l)) a (omega (arith, len))))
-    (le-leb (length v) b r))
+    (areas-of-most (encode l) v c a b (omega (arith, len)) (omega (arith, len)) r)
     (walk-encode v st l w)
     (ap whole (records-encode l) ∙ whole-agrees st l v (w .agrees))
   where
@@ -130,3 +164,6 @@ fine-of-at (Stop r) p d e = absurd (let z : _≡_ {A = ℕ} 0 1 = cc in omega ar
 pub stop-of-stopped : (q : Ruling) (p : ℕ) (x : Refusal) → admitted q p ≡ Stopped x → q ≡ Stop x
 stop-of-stopped Fine p x e = absurd (let z : _≡_ {A = ℕ} 0 1 = cc in omega arith)
 stop-of-stopped (Stop y) p x e = cc
+
+pub store-most : (e f : ℕ) (list v st : List ℕ) (c a b : ℕ) → Sound e f list v st c a b → length st ≤ storeMost
+store-most e f list v st c a b s = lengths-most v st (s .lengths-fit) .1

@@ -7,6 +7,9 @@ use mathlib.Core.List.{List}
 use lib.Dec.{leb}
 use lib.ListN.{length}
 use Rattle.format.specs.declared.Record.{Record}
+use Rattle.format.specs.declared.Figures.{Figures}
+use Rattle.format.specs.declared.Answer.{Answer}
+use Rattle.format.specs.declared.Answer.the-variants.{Accepted, Refused}
 use Rattle.format.specs.declared.Ruling.{Ruling}
 use Rattle.format.specs.declared.Ruling.the-variants.{Fine, Stop}
 use Rattle.format.specs.Record.{recordsOf, encode}
@@ -19,7 +22,7 @@ use Rattle.rebuild.specs.Rebuild.{lengthOnly}
 use Rattle.pass.specs.Pass.{passChoice, passLooks}
 use Rattle.demand.specs.declared.Answers.{Answers}
 use Rattle.demand.specs.declared.Demonstrated.{Demonstrated}
-use Rattle.demand.specs.declared.Demonstrated.the-variants.{Held, Refused}
+use Rattle.demand.specs.declared.Demonstrated.the-variants as demonstrated
 
 -- the areas: for the first partition, for rebuild, for the second partition, and for the pass
 pub record Areas : Type 0 where
@@ -69,6 +72,11 @@ pub record Demand (e f : ℕ) (list v : List ℕ) (c : List Bit) (x : Answers) (
 abbrev pub shorter : ℕ → ℕ → ℕ
 shorter a b = cond (leb a b) a b
 
+-- the figures of an accepted call
+abbrev pub figuresIn : Answer → Figures
+figuresIn (Accepted x) = x
+figuresIn (Refused r) = lengthOnly 0
+
 -- partition's checks, for the shortest area of each kind
 abbrev pub demandRuling : ℕ → ℕ → List ℕ → List ℕ → List ℕ → Areas → Ruling
 demandRuling e f list v st x =
@@ -79,5 +87,5 @@ demandRuling e f list v st x =
 
 -- "Where document 01 finds no fault .., partition accepts them", and all that follows; else the refusal, and every area as it was
 abbrev pub Told : ℕ → ℕ → List ℕ → List ℕ → List ℕ → Areas → Areas → Ruling → Demonstrated → Type 0
-Told e f list v st before after Fine r = (x : Answers) × (c : List Bit) × (r ≡ Held x) × Demand e f list v c x before after
-Told e f list v st before after (Stop y) r = (r ≡ Refused y) × (after ≡ before)
+Told e f list v st before after Fine r = (x : Answers) × (c : List Bit) × (r ≡ demonstrated.Held x) × Demand e f list v c x before after
+Told e f list v st before after (Stop y) r = (r ≡ demonstrated.Refused y) × (after ≡ before)

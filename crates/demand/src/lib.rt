@@ -1,10 +1,9 @@
 // Demand 3 of the mission as one function: it makes partition, rebuild, partition again and pass on lent areas, and its contract is the statement.
 ghost use mathlib.Core.Path.{_≡_};
-ghost use Rattle.demand.specs.Demand.{Areas, shorter, demandRuling, Told};
+ghost use Rattle.demand.specs.Demand.{Areas, shorter, figuresIn, demandRuling, Told};
 
 use admit::Admitted;
 use format::Answer;
-use format::Fault;
 use format::Figures;
 use format::Refusal;
 
@@ -30,15 +29,20 @@ fn shortest(a: usize, b: usize) -> usize
     b
 }
 
-// The refusal of a call; of one that was accepted, price.
-fn refused(a: Answer) -> Demonstrated {
-    let Answer::Refused(refusal) = a else {
-        return Demonstrated::Refused(Refusal {
-            fault: Fault::Price,
-            place: 0,
-        });
+// The figures of an accepted call.
+fn figures_of(a: Answer) -> Figures
+    ensures { λ r. ⌜ r ≡ figuresIn a ⌝ }
+{
+    let Answer::Accepted(figures) = a else {
+        return Figures {
+            cost: 0,
+            entries: 0,
+            stored: 0,
+            looks: 0,
+            whole: 0,
+        };
     };
-    Demonstrated::Refused(refusal)
+    figures
 }
 
 // The four calls, one after the other, where the inputs have no fault and each area is long enough; else the refusal, and nothing is written.
@@ -52,28 +56,16 @@ pub fn demonstrate(e: u32, f: u32, list: &[u8], version: &[u8], store: &[u8], ch
     let Admitted::At(_price) = admitted else {
         return Demonstrated::Refused(admit::refusal_of(admitted));
     };
-    let first = least::partition(e, f, list, version, store, choice, area, block);
-    let Answer::Accepted(x) = first else {
-        return refused(first);
-    };
-    let n = 12 * format::index(x.entries);
-    let m = format::index(x.stored);
-    let rebuilt = rebuild::rebuild(&area[0..n], &block[0..m], store, out);
-    let Answer::Accepted(y) = rebuilt else {
-        return refused(rebuilt);
-    };
-    let second = least::partition(e, f, &area[0..n], version, store, choice2, area2, block2);
-    let Answer::Accepted(z) = second else {
-        return refused(second);
-    };
-    let passed = linear::pass(e, f, list, version, store, choice3, area3, block3);
-    let Answer::Accepted(w) = passed else {
-        return refused(passed);
-    };
+    let first = figures_of(least::partition(e, f, list, version, store, choice, area, block));
+    let n = 12 * format::index(first.entries);
+    let m = format::index(first.stored);
+    let rebuilt = figures_of(rebuild::rebuild(&area[0..n], &block[0..m], store, out));
+    let second = figures_of(least::partition(e, f, &area[0..n], version, store, choice2, area2, block2));
+    let passed = figures_of(linear::pass(e, f, list, version, store, choice3, area3, block3));
     Demonstrated::Held(Answers {
-        first: x,
-        rebuilt: y,
-        second: z,
-        passed: w,
+        first,
+        rebuilt,
+        second,
+        passed,
     })
 }

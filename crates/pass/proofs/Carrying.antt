@@ -1,6 +1,6 @@
 -- What the moves of the cursor come to, outcome by outcome; a look opened at p.
 -- Assumes nothing.
-use Prim.Native.Nat.{ℕ, _+_, _-_, _*_, _≤_, _<_}
+use Prim.Native.Nat.{ℕ, _+_, _-_, _≤_, _<_}
 use native.Mathlib.Omega.{arith}
 use mathlib.Core.Path.{_≡_, refl, sym, ap, ap₂, _∙_}
 use mathlib.Core.Bool.{Bool, true, false}
@@ -8,15 +8,13 @@ use mathlib.Core.List.{List, [], _∷_}
 use lib.Dec.{ltb}
 use lib.ListN.{getD}
 use borrow.Author.Tests.{ltb-true, ltb-false}
-use Rattle.pass.specs.declared.Cell.{Cell}
 use Rattle.pass.specs.declared.Machine.{Machine}
-use Rattle.pass.specs.declared.Merge.{Merge}
 use Rattle.pass.specs.declared.Merge.the-variants.{Both, Before, After, Pair}
 use Rattle.pass.specs.declared.Outcome.{Outcome}
 use Rattle.pass.specs.declared.Outcome.the-variants.{Advance, Merged}
 use Rattle.pass.specs.declared.Step.{Step}
-use Rattle.pass.specs.Pass.{Item, new, mark, size, bytes, State, first, rest, Tests, testsOf, outcomeAt, stepBack, mergeIn, Look, ended, lookAt}
-use Rattle.pass.specs.Machine.{cellItem, itemIn, below, fromPlace, leftOf, rightOf, afterOf, Moved, reach, Reaches, Carried, Ready, Looked}
+use Rattle.pass.specs.Pass.{Item, new, mark, size, bytes, State, first, rest, testsOf, outcomeAt, stepBack, mergeIn, ended}
+use Rattle.pass.specs.Machine.{itemIn, below, fromPlace, leftOf, afterOf, goneOn, fusedBack, fusedAhead, Moved, reach, Reaches, Carried, Ready, Looked}
 use Rattle.pass.proofs.Gap.{state-of, below-next, fromPlace-next, fromPlace-none}
 use Rattle.pass.proofs.ByKind.{size-item, outcome-no-match, reach-mark}
 
@@ -40,20 +38,20 @@ module _ (m : Machine) where
 
   back-left : 0 < m .left → (s : ℕ)
       → stepBack (leftOf m) (new s ∷ rest (afterOf m))
-      ≡ record { left = below (m .kinds) (m .sizes) (m .left - 1); right = itemIn m (m .left - 1) ∷ new s ∷ fromPlace (m .kinds) (m .sizes) (m .right + 2) }
+      ≡ fusedAhead m s
   back-left h s = ap₂ (λ (l r : List Item). stepBack l (new s ∷ r)) (below-next (m .kinds) (m .sizes) (m .left) h) rest-after
 
   -- ---- the moves
 
   module _ (r : Machine) where
-    pub carried-advance : Reaches m Advance → Moved m r (record { left = itemIn m (m .right) ∷ leftOf m; right = afterOf m }) (m .left + 1) (m .right + 1)
+    pub carried-advance : Reaches m Advance → Moved m r (goneOn m) (m .left + 1) (m .right + 1)
         → Carried m Advance r
     carried-advance h v =
         record { holds = v .holds; gap = omega (arith, h .gap, v .left-is, v .right-is); within = omega (arith, h .ahead, v .right-is); rear-kept = v .rear-kept }
 
     module _ (s : ℕ) where
       pub carried-both : Reaches m (Merged (Both s))
-          → Moved m r (record { left = new s ∷ below (m .kinds) (m .sizes) (m .left - 1); right = fromPlace (m .kinds) (m .sizes) (m .right + 2) }) (m .left) (m .right + 2)
+          → Moved m r (fusedBack m s 2) (m .left) (m .right + 2)
           → Carried m (Merged (Both s)) r
       carried-both h v =
           let some : 0 < m .left = omega (arith, h .behind) in
@@ -65,7 +63,7 @@ module _ (m : Machine) where
           }
 
       pub carried-before : Reaches m (Merged (Before s))
-          → Moved m r (record { left = new s ∷ below (m .kinds) (m .sizes) (m .left - 1); right = fromPlace (m .kinds) (m .sizes) (m .right + 1) }) (m .left) (m .right + 1)
+          → Moved m r (fusedBack m s 1) (m .left) (m .right + 1)
           → Carried m (Merged (Before s)) r
       carried-before h v =
           let some : 0 < m .left = omega (arith, h .behind) in
@@ -76,11 +74,7 @@ module _ (m : Machine) where
             rear-kept = v .rear-kept;
           }
 
-      abbrev Ahead : Type 0
-      Ahead =
-          Moved m r (record { left = below (m .kinds) (m .sizes) (m .left - 1); right = itemIn m (m .left - 1) ∷ new s ∷ fromPlace (m .kinds) (m .sizes) (m .right + 2) }) (m .left - 1) (m .right)
-
-      pub carried-after : Reaches m (Merged (After s)) → Ahead → Carried m (Merged (After s)) r
+      pub carried-after : Reaches m (Merged (After s)) → Moved m r (fusedAhead m s) (m .left - 1) (m .right) → Carried m (Merged (After s)) r
       carried-after h v =
           record {
             holds = v .holds ∙ sym (back-left (omega (arith, h .behind)) s);
@@ -89,7 +83,7 @@ module _ (m : Machine) where
             rear-kept = v .rear-kept;
           }
 
-      pub carried-pair : Reaches m (Merged (Pair s)) → Ahead → Carried m (Merged (Pair s)) r
+      pub carried-pair : Reaches m (Merged (Pair s)) → Moved m r (fusedAhead m s) (m .left - 1) (m .right) → Carried m (Merged (Pair s)) r
       carried-pair h v =
           record {
             holds = v .holds ∙ sym (back-left (omega (arith, h .behind)) s);
@@ -135,7 +129,7 @@ module _ (price : ℕ) (m : Machine) (h : Ready price m) where
 
   -- at the front
   pub looked-front : m .left ≡ 0 → (s : Step) → s .outcome ≡ Advance
-      → Moved m (s .list) (record { left = itemIn m (m .right) ∷ leftOf m; right = afterOf m }) (m .left + 1) (m .right + 1) → Looked price m s
+      → Moved m (s .list) (goneOn m) (m .left + 1) (m .right + 1) → Looked price m s
   looked-front z s o v =
       let none = outcome-no-match (testsOf price) (first (leftOf m)) (itemIn m (m .right)) (first (afterOf m)) (first (rest (afterOf m))) (h .front z) in
       record {

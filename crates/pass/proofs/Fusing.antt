@@ -1,11 +1,11 @@
 -- What a pass keeps of a list: a relation between the list before and after some merges, for any weights of items.
 -- In order: what a list has to be; what becomes of the records; what is kept when one list turns into another; the fusing of neighbours.
 -- Assumes nothing.
-use Prim.Native.Nat.{ℕ, zero, suc, _+_, _*_, _≤_, _<_}
+use Prim.Native.Nat.{ℕ, _+_, _≤_}
 use native.Mathlib.Omega.{arith}
 use native.Mathlib.Nat.{add-assoc}
 use mathlib.Core.Path.{_≡_, refl, _∙_, ap}
-use mathlib.Core.Bool.{Bool, true, false}
+use mathlib.Core.Bool.{false}
 use mathlib.Core.List.{List, [], _∷_}
 use lib.ListN.{length}
 use Rattle.pass.specs.Pass.{Item, new, match, neither, size, bytes, isNew, first, joined}

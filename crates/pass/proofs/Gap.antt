@@ -7,7 +7,7 @@ use native.Mathlib.Nat.{lt-irrefl}
 use mathlib.Core.Path.{_≡_, refl, sym, ap, ap₂, subst, _∙_}
 use mathlib.Core.Logic.{_≢_}
 use mathlib.Core.List.{List, [], _∷_}
-use lib.ListN.{length, getD, set, length-set}
+use lib.ListN.{length, set}
 use lib.Seq.{getD-set-same, getD-set-other}
 use Rattle.format.specs.Record.{from}
 use Rattle.format.proofs.Rows.{from-next, from-none}

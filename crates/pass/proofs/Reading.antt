@@ -11,7 +11,6 @@ use lib.ListN.{length, getD, take, drop, set}
 use lib.Seq.{append-snoc, set-split}
 use borrow.Author.Tests.{ltb-true, ltb-false, lt-ltb, le-ltb}
 use Rattle.format.specs.declared.Record.{Record}
-use Rattle.format.specs.declared.Record.the-variants.{New, Match}
 use Rattle.format.specs.Record.{from, rowAt, recordOf, recordsOf}
 use Rattle.format.specs.Meaning.{sizeOf}
 use Rattle.format.proofs.Rows.{from-next, from-none, recordsFrom, recordsFrom-next, recordsFrom-none, recordsFrom-all, length-recordsOf}
@@ -19,8 +18,8 @@ use Rattle.choice.specs.Choice.{Bit, keep, store, bitByte, bitBytes, IsChoice}
 use Rattle.area.specs.Area.{pasted, over}
 use Rattle.area.proofs.Filling.{Filling, filling-start, filling-put, filling-end}
 use Rattle.pass.specs.declared.Machine.{Machine}
-use Rattle.pass.specs.Pass.{Item, new, match, neither, size, isNew, shrunk, cut, bitFor, choiceOf}
-use Rattle.pass.specs.Machine.{itemOf, itemAt, itemIn, endOf, Readable}
+use Rattle.pass.specs.Pass.{Item, new, match, neither, size, shrunk, cut, bitFor, choiceOf}
+use Rattle.pass.specs.Machine.{itemOf, itemIn, endOf, Covering}
 use Rattle.pass.proofs.ByKind.{size-item, new-item}
 use Rattle.pass.proofs.Gap.{rest-below}
 
@@ -101,7 +100,7 @@ pub record Off (m : Machine) (list before : List ℕ) (area : List ℕ) (at u i 
   pub covered : IsChoice (recordsFrom list (length list / 12) i) (choiceOf (recordsFrom list (length list / 12) i) (toCover m at u))
   pub filling : Filling (bitBytes (choiceOf (recordsOf list) (endOf m))) before area i (bitBytes (choiceOf (recordsFrom list (length list / 12) i) (toCover m at u)))
 
-module _ (m : Machine) (list before : List ℕ) (h : Readable m list before) where
+module _ (m : Machine) (list before : List ℕ) (h : Covering m list before) where
   pub off-start : Off m list before before 1 (getD (m .sizes) 1 0) 0
   off-start =
       record {

@@ -1,17 +1,16 @@
 -- A list that some records were fused into is the list of the choice that it stands for.
 -- Assumes nothing.
-use Prim.Native.Nat.{ℕ, zero, suc, _+_, _-_, _≤_, _<_}
+use Prim.Native.Nat.{ℕ, _+_, _-_, _<_}
 use native.Mathlib.Omega.{arith}
 use mathlib.Core.Path.{_≡_, refl, ap}
-use mathlib.Core.Bool.{true, false}
+use mathlib.Core.Bool.{false}
 use mathlib.Core.List.{List, [], _∷_}
-use lib.Dec.{ltb}
 use borrow.Author.Tests.{lt-ltb, le-ltb}
 use Rattle.format.specs.declared.Record.{Record}
 use Rattle.format.specs.declared.Record.the-variants.{New, Match}
 use Rattle.format.specs.WellFormed.{Sized}
 use Rattle.choice.specs.Choice.{IsChoice, fuse, listOf}
-use Rattle.pass.specs.Pass.{Item, new, match, neither, size, isNew, first, items, cut, choiceOf}
+use Rattle.pass.specs.Pass.{Item, new, match, size, isNew, first, items, cut, choiceOf}
 use Rattle.pass.proofs.Fusing.{Tidy, Fuses, none, takeNew, takeMatch, moreNew, moreMatch, keepMatch}
 
 items-fuse : (s : ℕ) (l : List Record) (is : List Item) → items l ≡ is → isNew (first is) ≡ false → items (fuse s l) ≡ new s ∷ is

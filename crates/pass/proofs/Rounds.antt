@@ -2,7 +2,7 @@
 -- Assumes nothing.
 use Prim.Native.Nat.{ℕ, _+_, _-_, _*_, _≤_, _<_}
 use native.Mathlib.Omega.{arith}
-use mathlib.Core.Path.{_≡_, refl, sym, ap, ap₂, subst, _∙_}
+use mathlib.Core.Path.{_≡_, refl, sym, ap, subst, _∙_}
 use mathlib.Core.Bool.{false}
 use mathlib.Core.List.{List, [], _∷_}
 use lib.ListN.{length}
@@ -11,8 +11,8 @@ use Rattle.format.proofs.Rows.{length-from}
 use Rattle.pass.specs.declared.Machine.{Machine}
 use Rattle.pass.specs.declared.Step.{Step}
 use Rattle.pass.specs.declared.Passed.{Passed}
-use Rattle.pass.specs.Pass.{Item, new, match, neither, mark, bytes, isMatch, State, Look, lookAt, testsOf, Run, stopped, preceded, run, pass, joined}
-use Rattle.pass.specs.Machine.{itemAt, itemIn, leftOf, rightOf, stateOf, afterOf, Ready, Looked, Runnable, Ran}
+use Rattle.pass.specs.Pass.{Item, new, match, neither, mark, bytes, isMatch, State, Look, lookAt, testsOf, Run, stopped, preceded, run, pass}
+use Rattle.pass.specs.Machine.{itemAt, itemIn, leftOf, rightOf, afterOf, Ready, Looked, Runnable, Ran}
 use Rattle.pass.proofs.Fusing.{Some, Starts, bytes-joined}
 use Rattle.pass.proofs.Looks.{seen, look-turns}
 use Rattle.pass.proofs.Running.{Onward, onward, run-look, run-rear}

@@ -1,10 +1,10 @@
 -- The theorems of the pass, at the price p of an entry: it ends, within 2n - 1 looks; each merge lowers the cost; the end list has no two new
 -- items side by side and is the list of the pass's choice, which is a choice.
 -- Assumes nothing.
-use Prim.Native.Nat.{ℕ, suc, _+_, _-_, _*_, _≤_, _<_}
+use Prim.Native.Nat.{ℕ, suc, _+_, _-_, _*_, _≤_}
 use native.Mathlib.Omega.{arith}
-use mathlib.Core.Path.{_≡_, refl, sym, _∙_, ap}
-use mathlib.Core.Bool.{true, false}
+use mathlib.Core.Path.{_≡_, refl, _∙_, ap}
+use mathlib.Core.Bool.{false}
 use mathlib.Core.List.{List, [], _∷_}
 use lib.ListN.{length}
 use borrow.Author.Tests.{ltb-true, lt-ltb}
@@ -14,7 +14,7 @@ use Rattle.format.specs.Meaning.{whole}
 use Rattle.format.specs.WellFormed.{Sized, NotNew, Apart}
 use Rattle.price.specs.Price.{cost}
 use Rattle.choice.specs.Choice.{IsChoice, listOf}
-use Rattle.pass.specs.Pass.{Item, new, match, neither, isNew, first, items, bytes, testsOf, Look, lookAt, mergeIn, mergesIn, joined, pass, passOutcomes, passLooks, passItems, choiceOf, passChoice}
+use Rattle.pass.specs.Pass.{Item, new, match, neither, isNew, first, items, bytes, testsOf, Look, lookAt, mergeIn, mergesIn, joined, pass, passOutcomes, passLooks, passItems, passChoice}
 use Rattle.pass.proofs.Fusing.{Starts, Tidy, weigh}
 use Rattle.pass.proofs.Looks.{Pays, seen, look-turns}
 use Rattle.pass.proofs.Running.{Passes, passes}
@@ -60,7 +60,7 @@ tidy-of-apart [] h = tt
 tidy-of-apart (New s ∷ rs) h = (not-new-items rs (h .0), tidy-of-apart rs (h .1))
 tidy-of-apart (Match s a ∷ rs) h = tidy-of-apart rs h
 
--- each merge lowers the cost of the carried list, and an advance leaves it
+-- each merge lowers the cost of the carried list, marks priced like records, and an advance does not raise it
 pub merge-lowers : (p : ℕ) (l : List Item) (x : Item) (r : List Item) → Starts (joined l (x ∷ r))
     → let s : Look = lookAt (testsOf p) l x r in
     weigh (priceOf p) (joined (s .next .left) (s .next .right)) + mergeIn (s .outcome) ≤ weigh (priceOf p) (joined l (x ∷ r))
@@ -82,6 +82,7 @@ module _ (p : ℕ) (rs : List Record) (apart : Apart rs) where
   pub pass-bytes : bytes (passItems p rs) ≡ whole rs
   pass-bytes = pass-of .kept ∙ bytes-items rs
 
+-- the pass at the price p over the records rs: few looks, a choice, whose list is the end list, at no higher cost
 pub record PassHolds (p : ℕ) (rs : List Record) : Type 0 where
   pub few : passLooks p rs ≤ 2 * length rs - 1
   pub choice : IsChoice rs (passChoice p rs)

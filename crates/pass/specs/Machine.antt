@@ -17,12 +17,13 @@ use Rattle.pass.specs.declared.Outcome.{Outcome}
 use Rattle.pass.specs.declared.Outcome.the-variants.{Advance, Merged}
 use Rattle.pass.specs.declared.Step.{Step}
 use Rattle.pass.specs.declared.Passed.{Passed}
-use Rattle.pass.specs.Pass.{Item, new, match, neither, mark, isMatch, bytes, State, first, rest, testsOf, after, mergeIn, Look, lookAt, pass, joined, choiceOf}
+use Rattle.pass.specs.Pass.{Item, new, match, neither, mark, isMatch, bytes, State, rest, testsOf, after, mergeIn, Look, lookAt, pass, joined, choiceOf}
 
 -- kind 0 is new, 1 a match, any other neither
 abbrev pub itemOf : ℕ → ℕ → Item
 itemOf k s = cond (eqb k 0) (new s) (cond (eqb k 1) (match s) (neither s))
 
+-- the item of a cell, of a place of two arrays
 abbrev pub cellItem : Cell → Item
 cellItem c = itemOf (c .kind) (c .size)
 
@@ -38,6 +39,7 @@ below ks ss (suc i) = itemAt ks ss i ∷ below ks ss i
 abbrev pub fromPlace : List ℕ → List ℕ → ℕ → List Item
 fromPlace ks ss i = from (itemAt ks ss) i (4097 - i)
 
+-- what a machine holds: what comes before p, p and what comes after it, the item at a place, and the state
 abbrev pub leftOf : Machine → List Item
 leftOf m = below (m .kinds) (m .sizes) (m .left)
 
@@ -50,9 +52,24 @@ itemIn m i = itemAt (m .kinds) (m .sizes) i
 abbrev pub stateOf : Machine → State
 stateOf m = record { left = leftOf m; right = rightOf m }
 
--- the state before a look at p, with p apart: what comes after it
+-- what comes after p
 abbrev pub afterOf : Machine → List Item
 afterOf m = fromPlace (m .kinds) (m .sizes) (m .right + 1)
+
+-- the three moves: p goes to the one after; the one before p becomes a new record of s bytes, and p goes n on; p and the one after it become a
+-- new record of s bytes, and p goes to the one before
+abbrev pub goneOn : Machine → State
+goneOn m = record { left = itemIn m (m .right) ∷ leftOf m; right = afterOf m }
+
+abbrev pub fusedBack : Machine → ℕ → ℕ → State
+fusedBack m s n = record { left = new s ∷ below (m .kinds) (m .sizes) (m .left - 1); right = fromPlace (m .kinds) (m .sizes) (m .right + n) }
+
+abbrev pub fusedAhead : Machine → ℕ → State
+fusedAhead m s =
+    record {
+      left = below (m .kinds) (m .sizes) (m .left - 1);
+      right = itemIn m (m .left - 1) ∷ new s ∷ fromPlace (m .kinds) (m .sizes) (m .right + 2);
+    }
 
 -- a machine that came of another: the state that it holds, its cursor, and the rear mark as it was
 pub record Moved (m r : Machine) (to : State) (left right : ℕ) : Type 0 where
@@ -91,6 +108,7 @@ pub record Ready (price : ℕ) (m : Machine) : Type 0 where
   pub front : m .left ≡ 0 → isMatch (itemIn m (m .right)) ≡ false
   pub fits : bytes (leftOf m) + bytes (rightOf m) ≤ versionMost
 
+-- the look that a step stands for
 abbrev pub lookOf : Step → Look
 lookOf s = record { outcome = s .outcome; next = stateOf (s .list) }
 
@@ -126,7 +144,7 @@ abbrev pub endOf : Machine → List Item
 endOf m = rest (joined (leftOf m) [])
 
 -- what reading off a choice asks for: a byte for each record, and items that cover the records
-pub record Readable (m : Machine) (list choice : List ℕ) : Type 0 where
+pub record Covering (m : Machine) (list choice : List ℕ) : Type 0 where
   pub within : m .left ≤ 4097
   pub list-most : length list ≤ 49152
   pub room : length (recordsOf list) ≤ length choice

@@ -13,13 +13,13 @@ use Rattle.format.specs.Record.{recordsOf}
 use Rattle.format.specs.Meaning.{sizeOf, whole}
 use Rattle.format.specs.WellFormed.{Sized, Apart}
 use Rattle.choice.specs.Choice.{Bit, keep, store}
-use Rattle.pass.specs.declared.Merge.{Merge}
 use Rattle.pass.specs.declared.Merge.the-variants.{Both, Before, After, Pair}
 use Rattle.pass.specs.declared.Outcome.{Outcome}
 use Rattle.pass.specs.declared.Outcome.the-variants.{Advance, Merged}
 
 -- ---- the list: "a record of kinds and sizes .. with a front and a rear mark, both of neither kind"
 
+-- a new record, a match, or one of neither kind, each with its size
 pub data Item : Type 0 where
   new : ℕ → Item
   match : ℕ → Item
@@ -29,11 +29,13 @@ pub data Item : Type 0 where
 abbrev pub mark : Item
 mark = neither 0
 
+-- bytes covered
 abbrev pub size : Item → ℕ
 size (new s) = s
 size (match s) = s
 size (neither s) = s
 
+-- whether an item is new, and whether it is a match
 abbrev pub isNew : Item → Bool
 isNew (new s) = true
 isNew (match s) = false
@@ -49,11 +51,12 @@ abbrev pub itemFor : Record → Item
 itemFor (New s) = new s
 itemFor (Match s a) = match s
 
+-- the records of a list, in their order
 abbrev pub items : List Record → List Item
 items [] = []
 items (r ∷ rs) = itemFor r ∷ items rs
 
--- bytes covered
+-- the sum of all sizes
 abbrev pub bytes : List Item → ℕ
 bytes [] = 0
 bytes (x ∷ l) = size x + bytes l
@@ -69,6 +72,7 @@ abbrev pub first : List Item → Item
 first [] = mark
 first (x ∷ l) = x
 
+-- the others
 abbrev pub rest : List Item → List Item
 rest [] = []
 rest (x ∷ l) = l
@@ -85,7 +89,12 @@ pub record Tests : Type 0 where
 abbrev pub testsOf : ℕ → Tests
 testsOf p = record { lone = λ s. ltb s (2 * p); side = λ s. ltb s p; pair = λ s. ltb s p }
 
--- rules 1 to 5 in their order, for p with b before it, a after it and c second after it; a merge with the bytes that it fuses
+-- how a look at p ends, with b before it, a after it and c second after it; a merge with the bytes that it fuses:
+-- 1. "p is a match, both neighbours new, size < 2P"
+-- 2. "p is a match, the one before is new, size < P"
+-- 3. "p is a match, the one after is new, size < P"
+-- 4. "p and the one after are matches, neither the one before p nor the second after p is new, and the two sizes together < P"
+-- 5. "Otherwise p goes to the one after"
 abbrev pub outcomeAt : Tests → Item → Item → Item → Item → Outcome
 outcomeAt t b p a c =
     cond (isMatch p && isNew b && isNew a && t .lone (size p)) (Merged (Both (size b + size p + size a)))
@@ -99,7 +108,11 @@ abbrev pub stepBack : List Item → List Item → State
 stepBack [] r = record { left = []; right = r }
 stepBack (x ∷ l) r = record { left = l; right = x ∷ r }
 
--- what an outcome makes of the list, with l before p and r after it; the record made is new and has the bytes fused
+-- what an outcome makes of the list, with l before p and r after it; the record made is new and has the bytes fused:
+-- 1. "the three become one new record; p goes to the one after it"
+-- 2. "p joins it; p goes to the one after"
+-- 3. "p joins it; p goes to the one before"
+-- 4. "the two become one new record; p goes to the one before it"
 abbrev pub after : Outcome → List Item → Item → List Item → State
 after (Merged (Both s)) l p r = record { left = new s ∷ rest l; right = rest r }
 after (Merged (Before s)) l p r = record { left = new s ∷ rest l; right = r }
@@ -107,10 +120,12 @@ after (Merged (After s)) l p r = stepBack l (new s ∷ rest r)
 after (Merged (Pair s)) l p r = stepBack l (new s ∷ rest r)
 after Advance l p r = record { left = p ∷ l; right = r }
 
+-- "each look .. ends as an advance or as one of the four merges with the bytes it fused", with the list after it
 pub record Look : Type 0 where
   pub outcome : Outcome
   pub next : State
 
+-- a look that ends with this outcome
 abbrev pub ended : Outcome → List Item → Item → List Item → Look
 ended o l p r = record { outcome = o; next = after o l p r }
 
@@ -135,9 +150,11 @@ pub record Run : Type 0 where
   pub end : State
   pub outcomes : List Outcome
 
+-- no look more
 abbrev pub stopped : List Item → List Item → Run
 stopped l r = record { end = record { left = l; right = r }; outcomes = [] }
 
+-- one look before a run
 abbrev pub preceded : Outcome → Run → Run
 preceded o r = record { end = r .end; outcomes = o ∷ r .outcomes }
 
@@ -189,6 +206,7 @@ shrunk (neither t) s = neither (t - s)
 abbrev pub cut : ℕ → Item → List Item → List Item
 cut s i is = cond (ltb s (size i)) (shrunk i s ∷ is) is
 
+-- 1 for a new item, 0 for a match
 abbrev pub bitFor : Item → Bit
 bitFor i = cond (isNew i) store keep
 
@@ -202,7 +220,7 @@ choiceOf (r ∷ rs) (i ∷ is) = bitFor i ∷ choiceOf rs (cut (sizeOf r) i is)
 abbrev pub passChoice : ℕ → List Record → List Bit
 passChoice p rs = choiceOf rs (passItems p rs)
 
--- what the call asks for: a price and a list that were accepted, and a byte for each record
+-- what the call asks for: a price that is at most 65,535 × 255, a list that was accepted, and a byte for each record
 pub record Passable (price : ℕ) (list choice : List ℕ) : Type 0 where
   pub price-most : price ≤ 16711425
   pub list-most : length list ≤ listMost

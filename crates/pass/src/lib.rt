@@ -4,14 +4,13 @@
 // Not here: what is refused. Callers hand in lists that were accepted.
 ghost use mathlib.Core.Path.{_≡_};
 ghost use Prim.Native.Nat.{_+_, _-_, _≤_, _<_};
-ghost use mathlib.Core.List.{_∷_};
 ghost use lib.ListN.{length};
 ghost use Rattle.format.specs.Record.{recordsOf};
 ghost use Rattle.format.specs.Meaning.{sizeOf};
 ghost use Rattle.choice.specs.Choice.{bitByte, bitBytes};
 ghost use Rattle.area.specs.Area.{over};
 ghost use Rattle.pass.specs.Pass.{Item, new, match, testsOf, outcomeAt, items, itemFor, bitFor, choiceOf, passLooks, passChoice, Passable};
-ghost use Rattle.pass.specs.Machine.{itemOf, cellItem, itemIn, below, fromPlace, leftOf, rightOf, afterOf, endOf, Moved, Reaches, Carried, Ready, Looked, Loaded, Runnable, Ran, Readable};
+ghost use Rattle.pass.specs.Machine.{itemOf, cellItem, rightOf, endOf, goneOn, fusedBack, fusedAhead, Moved, Reaches, Carried, Ready, Looked, Loaded, Runnable, Ran, Covering};
 use format::Record;
 
 // A merge, by what becomes one with p, and the bytes fused: the size of the record made.
@@ -101,75 +100,75 @@ fn outcome_at(price: u32, before: Cell, p: Cell, after: Cell, second: Cell) -> O
 }
 
 // p goes to the one after.
-fn advanced(mut l: Machine) -> Machine
-    requires { ⌜ (l .left ≤ l .right) × (l .right < 4097) ⌝ }
-    ensures { λ r. ⌜ Moved l r (record { left = itemIn l (l .right) ∷ leftOf l; right = afterOf l }) (l .left + 1) (l .right + 1) ⌝ }
+fn advanced(mut machine: Machine) -> Machine
+    requires { ⌜ (machine .left ≤ machine .right) × (machine .right < 4097) ⌝ }
+    ensures { λ r. ⌜ Moved machine r (goneOn machine) (machine .left + 1) (machine .right + 1) ⌝ }
 {
-    let left = l.left;
-    let right = l.right;
-    l.kinds[left] = l.kinds[right];
-    l.sizes[left] = l.sizes[right];
-    l.left = left + 1;
-    l.right = right + 1;
-    l
+    let left = machine.left;
+    let right = machine.right;
+    machine.kinds[left] = machine.kinds[right];
+    machine.sizes[left] = machine.sizes[right];
+    machine.left = left + 1;
+    machine.right = right + 1;
+    machine
 }
 
 // The one before p becomes a new record of `size` bytes, and p goes `count` on.
-fn fused_back(mut l: Machine, size: u32, count: usize) -> Machine
-    requires { ⌜ (0 < l .left) × (l .left ≤ l .right) × (1 ≤ count) × (l .right + count ≤ 4097) ⌝ }
-    ensures { λ r. ⌜ Moved l r (record { left = new size ∷ below (l .kinds) (l .sizes) (l .left - 1); right = fromPlace (l .kinds) (l .sizes) (l .right + count) }) (l .left) (l .right + count) ⌝ }
+fn fused_back(mut machine: Machine, size: u32, count: usize) -> Machine
+    requires { ⌜ (0 < machine .left) × (machine .left ≤ machine .right) × (1 ≤ count) × (machine .right + count ≤ 4097) ⌝ }
+    ensures { λ r. ⌜ Moved machine r (fusedBack machine size count) (machine .left) (machine .right + count) ⌝ }
 {
-    let before = l.left - 1;
-    let right = l.right;
-    l.kinds[before] = 0;
-    l.sizes[before] = size;
-    l.right = right + count;
-    l
+    let before = machine.left - 1;
+    let right = machine.right;
+    machine.kinds[before] = 0;
+    machine.sizes[before] = size;
+    machine.right = right + count;
+    machine
 }
 
 // p and the one after it become a new record of `size` bytes, and p goes to the one before.
-fn fused_ahead(mut l: Machine, size: u32) -> Machine
-    requires { ⌜ (0 < l .left) × (l .left ≤ l .right) × (l .right < 4096) ⌝ }
-    ensures { λ r. ⌜ Moved l r (record { left = below (l .kinds) (l .sizes) (l .left - 1); right = itemIn l (l .left - 1) ∷ new size ∷ fromPlace (l .kinds) (l .sizes) (l .right + 2) }) (l .left - 1) (l .right) ⌝ }
+fn fused_ahead(mut machine: Machine, size: u32) -> Machine
+    requires { ⌜ (0 < machine .left) × (machine .left ≤ machine .right) × (machine .right < 4096) ⌝ }
+    ensures { λ r. ⌜ Moved machine r (fusedAhead machine size) (machine .left - 1) (machine .right) ⌝ }
 {
-    let before = l.left - 1;
-    let right = l.right;
+    let before = machine.left - 1;
+    let right = machine.right;
     let next = right + 1;
-    let kind = l.kinds[before];
-    let moved = l.sizes[before];
-    l.kinds[next] = 0;
-    l.sizes[next] = size;
-    l.kinds[right] = kind;
-    l.sizes[right] = moved;
-    l.left = before;
-    l
+    let kind = machine.kinds[before];
+    let moved = machine.sizes[before];
+    machine.kinds[next] = 0;
+    machine.sizes[next] = size;
+    machine.kinds[right] = kind;
+    machine.sizes[right] = moved;
+    machine.left = before;
+    machine
 }
 
 // What an outcome makes of the list.
-fn carried(l: Machine, outcome: Outcome) -> Machine
-    requires { ⌜ Reaches l outcome ⌝ }
-    ensures { λ r. ⌜ Carried l outcome r ⌝ }
+fn carried(machine: Machine, outcome: Outcome) -> Machine
+    requires { ⌜ Reaches machine outcome ⌝ }
+    ensures { λ r. ⌜ Carried machine outcome r ⌝ }
 {
     match outcome {
-        Outcome::Advance => advanced(l),
+        Outcome::Advance => advanced(machine),
         Outcome::Merged(merge) => match merge {
-            Merge::Both(size) => fused_back(l, size, 2),
-            Merge::Before(size) => fused_back(l, size, 1),
-            Merge::After(size) => fused_ahead(l, size),
-            Merge::Pair(size) => fused_ahead(l, size),
+            Merge::Both(size) => fused_back(machine, size, 2),
+            Merge::Before(size) => fused_back(machine, size, 1),
+            Merge::After(size) => fused_ahead(machine, size),
+            Merge::Pair(size) => fused_ahead(machine, size),
         },
     }
 }
 
 // One look at p.
-fn look(l: Machine, price: u32) -> Step
-    requires { ⌜ Ready price l ⌝ }
-    ensures { λ r. ⌜ Looked price l r ⌝ }
+fn look(machine: Machine, price: u32) -> Step
+    requires { ⌜ Ready price machine ⌝ }
+    ensures { λ r. ⌜ Looked price machine r ⌝ }
 {
-    let left = l.left;
-    let right = l.right;
+    let left = machine.left;
+    let right = machine.right;
     if left == 0 {
-        let list = advanced(l);
+        let list = advanced(machine);
         return Step {
             outcome: Outcome::Advance,
             list,
@@ -177,37 +176,37 @@ fn look(l: Machine, price: u32) -> Step
     }
     let near = left - 1;
     let before = Cell {
-        kind: l.kinds[near],
-        size: l.sizes[near],
+        kind: machine.kinds[near],
+        size: machine.sizes[near],
     };
     let p = Cell {
-        kind: l.kinds[right],
-        size: l.sizes[right],
+        kind: machine.kinds[right],
+        size: machine.sizes[right],
     };
     let next = right + 1;
     let after = Cell {
-        kind: l.kinds[next],
-        size: l.sizes[next],
+        kind: machine.kinds[next],
+        size: machine.sizes[next],
     };
     let mut second = Cell { kind: 2, size: 0 };
     if right < 4096 {
         let far = right + 2;
         second = Cell {
-            kind: l.kinds[far],
-            size: l.sizes[far],
+            kind: machine.kinds[far],
+            size: machine.sizes[far],
         };
     }
     let outcome = outcome_at(price, before, p, after, second);
-    let list = carried(l, outcome);
+    let list = carried(machine, outcome);
     Step { outcome, list }
 }
 
 // Looks until p is the rear, and counts them.
-fn run(l: Machine, price: u32) -> Passed
-    requires { ⌜ Runnable price l ⌝ }
-    ensures { λ r. ⌜ Ran price (rightOf l) r ⌝ }
+fn run(machine: Machine, price: u32) -> Passed
+    requires { ⌜ Runnable price machine ⌝ }
+    ensures { λ r. ⌜ Ran price (rightOf machine) r ⌝ }
 {
-    let mut list = l;
+    let mut list = machine;
     let mut looks: u32 = 0;
     while list.right < 4097 {
         let step = look(list, price);
@@ -259,24 +258,24 @@ fn bit_of(kind: u8) -> u8
 }
 
 // Writes one choice byte for each record: records and end items go side by side, by their sizes.
-fn read_off(l: Machine, list: &[u8], choice: &mut [u8])
-    requires { ⌜ Readable l (now list) (now choice) ⌝ }
-    ensures { λ _. ⌜ now (choice .exit) ≡ over (bitBytes (choiceOf (recordsOf (now (list .entry))) (endOf l))) (now (choice .entry)) ⌝ }
+fn read_off(machine: Machine, list: &[u8], choice: &mut [u8])
+    requires { ⌜ Covering machine (now list) (now choice) ⌝ }
+    ensures { λ _. ⌜ now (choice .exit) ≡ over (bitBytes (choiceOf (recordsOf (now (list .entry))) (endOf machine))) (now (choice .entry)) ⌝ }
 {
     let n = list.len() / 12;
     let mut at: usize = 1;
-    let mut uncovered = l.sizes[1];
+    let mut uncovered = machine.sizes[1];
     let mut i = 0;
     while i < n {
         let item = format::record_of(format::row_at(list, i));
         let size = choice::size_of(item);
-        choice[i] = bit_of(l.kinds[at]);
+        choice[i] = bit_of(machine.kinds[at]);
         i += 1;
         if size < uncovered {
             uncovered -= size;
         } else {
             at += 1;
-            uncovered = l.sizes[at];
+            uncovered = machine.sizes[at];
         }
     }
 }

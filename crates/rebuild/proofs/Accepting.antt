@@ -8,7 +8,7 @@ use mathlib.Core.List.{List, []}
 use lib.Dec.{eqb, leb, ltb}
 use lib.ListN.{length}
 use borrow.Author.Tests.{le-leb, lt-leb, eq-eqb, ne-eqb, eqb-true, ltb-true}
-use Rattle.format.specs.declared.Fault.the-variants.{TooLong, ListLength, BlockLength, NoSuchRecord}
+use Rattle.format.specs.declared.Fault.the-variants.{TooLong, ListLength, BlockLength, NoSuchRecord, AreaTooShort}
 use Rattle.format.specs.declared.Refusal.{Refusal}
 use Rattle.format.specs.declared.Ruling.{Ruling}
 use Rattle.format.specs.declared.Ruling.the-variants.{Fine, Stop}
@@ -16,16 +16,16 @@ use Rattle.format.specs.Limits.{storeMost, versionMost}
 use Rattle.format.specs.Refusal.{need, refuse, _then_}
 use Rattle.format.specs.declared.Record.{Record}
 use Rattle.format.specs.Record.{listFits, rowsOf, recordsOf, encode}
-use Rattle.format.specs.Meaning.{stored}
+use Rattle.format.specs.Meaning.{whole, stored}
 use Rattle.format.specs.WellFormed.{Readable}
-use Rattle.format.proofs.Rulings.{fine-of-then, true-of-need}
+use Rattle.format.proofs.Rulings.{fine-of-then, then-of-fine, true-of-need}
 use Rattle.format.proofs.Rows.{Counted, counted-of-fits}
 use Rattle.walk.specs.declared.Scope.the-variants as scope
 use Rattle.walk.specs.Checks.{checks, walkRuling, front}
 use Rattle.format.proofs.Encoding.{records-encode, fits-encode}
 use Rattle.walk.proofs.Written.{walk-store}
 use Rattle.walk.proofs.Accepted.{each-of-fine, sized-of-four, apart-of-five, whole-of-six, inside-of-seven}
-use Rattle.rebuild.specs.Rebuild.{inputsRuling, checkRuling}
+use Rattle.rebuild.specs.Rebuild.{inputsRuling, checkRuling, rebuildRuling}
 
 module _ (list block st : List ℕ) where
   pub inputs-long : storeMost < length st → inputsRuling list block st ≡ Stop (refuse TooLong 0)
@@ -74,3 +74,7 @@ module _ (list block st : List ℕ) where
 pub inputs-written : (l : List Record) (block st : List ℕ) → length l ≤ 4096 → length st ≤ storeMost → Readable l block st → inputsRuling (encode l) block st ≡ Fine
 inputs-written l block st n h r =
     inputs-fine (encode l) block st h (fits-encode l n) (walk-store st l (r .sized) (r .apart) (r .inside) (r .whole-most)) (r .block-fits ∙ ap stored (sym (records-encode l)))
+
+pub rebuild-fine : (list block st area : List ℕ) → inputsRuling list block st ≡ Fine → whole (recordsOf list) ≤ length area → rebuildRuling list block st area ≡ Fine
+rebuild-fine list block st area e h =
+    then-of-fine (inputsRuling list block st) (need (leb (whole (recordsOf list)) (length area)) AreaTooShort 0) e (rw (le-leb (whole (recordsOf list)) (length area) h))

@@ -1,39 +1,36 @@
 -- `pass::advanced` meets its contract: one store in each array, at the place after what comes before p. Assumes nothing.
-use Prim.Native.Nat.{ℕ, _+_, _-_, _≤_, _<_}
+use Prim.Native.Nat.{_+_}
 use native.Mathlib.Omega.{arith}
-use mathlib.Core.Path.{_≡_, refl, ap, _∙_}
-use mathlib.Core.List.{List, _∷_}
-use lib.ListN.{length, getD, set, length-set}
-use Rattle.pass.specs.Pass.{Item, new}
-use Rattle.pass.specs.Machine.{itemAt, below, fromPlace}
+use mathlib.Core.Path.{_≡_, refl}
+use lib.ListN.{length, getD}
 use Rattle.pass.proofs.Gap.{state-of, below-put, fromPlace-set, rear-set}
 use borrow.Author.Needs.{needs}
 use Rattle.pass.proofs.advanced.Statement.{statement}
 use Rattle.pass.proofs.advanced.Tie as tie
 
-element-copy-out-l : tie.Need-element-copy-out-l
-element-copy-out-l c = search needs
+element-copy-out-machine : tie.Need-element-copy-out-machine
+element-copy-out-machine c = search needs
 
-element-write-l : tie.Need-element-write-l
-element-write-l c = search needs
+element-write-machine : tie.Need-element-write-machine
+element-write-machine c = search needs
 
-mul-l : tie.Need-mul-l
-mul-l c = search needs
+mul-machine : tie.Need-mul-machine
+mul-machine c = search needs
 
-element-copy-out-l-2 : tie.Need-element-copy-out-l-2
-element-copy-out-l-2 c = search needs
+element-copy-out-machine-2 : tie.Need-element-copy-out-machine-2
+element-copy-out-machine-2 c = search needs
 
-mul-l-2 : tie.Need-mul-l-2
-mul-l-2 c = search needs
+mul-machine-2 : tie.Need-mul-machine-2
+mul-machine-2 c = search needs
 
-element-write-l-2 : tie.Need-element-write-l-2
-element-write-l-2 c = search needs
+element-write-machine-2 : tie.Need-element-write-machine-2
+element-write-machine-2 c = search needs
 
-add-l : tie.Need-add-l
-add-l c = search needs
+add-machine : tie.Need-add-machine
+add-machine c = search needs
 
-add-l-2 : tie.Need-add-l-2
-add-l-2 c = search needs
+add-machine-2 : tie.Need-add-machine-2
+add-machine-2 c = search needs
 
 returns : tie.Need-returns
 returns c =
@@ -53,12 +50,12 @@ pub advanced-spec : {M : Type 1} → statement M
 advanced-spec =
     tie.close
     (tie.spec
-    element-copy-out-l
-    element-write-l
-    mul-l
-    element-copy-out-l-2
-    mul-l-2
-    element-write-l-2
-    add-l
-    add-l-2
+    element-copy-out-machine
+    element-write-machine
+    mul-machine
+    element-copy-out-machine-2
+    mul-machine-2
+    element-write-machine-2
+    add-machine
+    add-machine-2
     returns)

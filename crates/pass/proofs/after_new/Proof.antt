@@ -1,7 +1,7 @@
 -- `pass::after_new` meets its contract: each way out is the first rule that applies there, by kinds. Assumes nothing.
-use Prim.Native.Nat.{_+_, _*_, _≤_}
+use Prim.Native.Nat.{_+_, _*_}
 use native.Mathlib.Omega.{arith}
-use mathlib.Core.Path.{_≡_, refl, sym, ap₂, _∙_}
+use mathlib.Core.Path.{_≡_, sym, _∙_}
 use borrow.Author.Tests.{eq-eqb, ne-eqb, lt-ltb, le-ltb}
 use Rattle.pass.specs.declared.Merge.the-variants.{Both, Before}
 use Rattle.pass.specs.declared.Outcome.the-variants.{Advance, Merged}

@@ -1,7 +1,5 @@
 -- `pass::carried` meets its contract: each outcome is the move of the cursor that it stands for. Assumes nothing.
 use native.Mathlib.Omega.{arith}
-use Prim.Native.Nat.{_+_, _≤_, _<_}
-use Rattle.pass.specs.Machine.{Reaches}
 use Rattle.pass.proofs.Carrying.{carried-advance, carried-both, carried-before, carried-after, carried-pair}
 use borrow.Author.Needs.{needs}
 use Rattle.pass.proofs.carried.Statement.{statement}
@@ -51,19 +49,19 @@ fused-ahead-requires-2 c κs =
     (omega (arith, h .behind), h .gap, omega (arith, h .ahead))
 
 returns : tie.Need-returns
-returns c = rw (c .before .enum-told .given .1) (carried-advance (c .before .before .before .args .l) (c .advanced .result) (rw (c .before .enum-told .given .1) at (c .before .before .before .pre)) (c .advanced .ensures))
+returns c = rw (c .before .enum-told .given .1) (carried-advance (c .before .before .before .args .machine) (c .advanced .result) (rw (c .before .enum-told .given .1) at (c .before .before .before .pre)) (c .advanced .ensures))
 
 returns-2 : tie.Need-returns-2
-returns-2 c = rw (c .before .before .before .before .before .outcome .given .1, c .before .before .merge .given .1) (carried-both (c .before .before .before .before .before .before .before .args .l) (c .fused-back .result) (c .before .before .merge .given .0 .0) (rw (c .before .before .before .before .before .outcome .given .1, c .before .before .merge .given .1) at (c .before .before .before .before .before .before .before .pre)) (c .fused-back .ensures))
+returns-2 c = rw (c .before .before .before .before .before .outcome .given .1, c .before .before .merge .given .1) (carried-both (c .before .before .before .before .before .before .before .args .machine) (c .fused-back .result) (c .before .before .merge .given .0 .0) (rw (c .before .before .before .before .before .outcome .given .1, c .before .before .merge .given .1) at (c .before .before .before .before .before .before .before .pre)) (c .fused-back .ensures))
 
 returns-3 : tie.Need-returns-3
-returns-3 c = rw (c .before .before .before .before .before .outcome .given .1, c .before .before .merge2 .given .1) (carried-before (c .before .before .before .before .before .before .before .args .l) (c .fused-back2 .result) (c .before .before .merge2 .given .0 .0) (rw (c .before .before .before .before .before .outcome .given .1, c .before .before .merge2 .given .1) at (c .before .before .before .before .before .before .before .pre)) (c .fused-back2 .ensures))
+returns-3 c = rw (c .before .before .before .before .before .outcome .given .1, c .before .before .merge2 .given .1) (carried-before (c .before .before .before .before .before .before .before .args .machine) (c .fused-back2 .result) (c .before .before .merge2 .given .0 .0) (rw (c .before .before .before .before .before .outcome .given .1, c .before .before .merge2 .given .1) at (c .before .before .before .before .before .before .before .pre)) (c .fused-back2 .ensures))
 
 returns-4 : tie.Need-returns-4
-returns-4 c = rw (c .before .before .before .before .before .outcome .given .1, c .before .before .merge3 .given .1) (carried-after (c .before .before .before .before .before .before .before .args .l) (c .fused-ahead .result) (c .before .before .merge3 .given .0 .0) (rw (c .before .before .before .before .before .outcome .given .1, c .before .before .merge3 .given .1) at (c .before .before .before .before .before .before .before .pre)) (c .fused-ahead .ensures))
+returns-4 c = rw (c .before .before .before .before .before .outcome .given .1, c .before .before .merge3 .given .1) (carried-after (c .before .before .before .before .before .before .before .args .machine) (c .fused-ahead .result) (c .before .before .merge3 .given .0 .0) (rw (c .before .before .before .before .before .outcome .given .1, c .before .before .merge3 .given .1) at (c .before .before .before .before .before .before .before .pre)) (c .fused-ahead .ensures))
 
 returns-5 : tie.Need-returns-5
-returns-5 c = rw (c .before .before .before .before .before .outcome .given .1, c .before .before .merge4 .given .1) (carried-pair (c .before .before .before .before .before .before .before .args .l) (c .fused-ahead2 .result) (c .before .before .merge4 .given .0 .0) (rw (c .before .before .before .before .before .outcome .given .1, c .before .before .merge4 .given .1) at (c .before .before .before .before .before .before .before .pre)) (c .fused-ahead2 .ensures))
+returns-5 c = rw (c .before .before .before .before .before .outcome .given .1, c .before .before .merge4 .given .1) (carried-pair (c .before .before .before .before .before .before .before .args .machine) (c .fused-ahead2 .result) (c .before .before .merge4 .given .0 .0) (rw (c .before .before .before .before .before .outcome .given .1, c .before .before .merge4 .given .1) at (c .before .before .before .before .before .before .before .pre)) (c .fused-ahead2 .ensures))
 
 pub carried-spec : {M : Type 1} → statement M
 carried-spec =

@@ -1,11 +1,11 @@
 -- `pass::fused_ahead` meets its contract: two stores in each array, at the place after p and at p. Assumes nothing.
-use Prim.Native.Nat.{ℕ, _+_, _-_, _≤_, _<_}
+use Prim.Native.Nat.{ℕ, _+_, _-_, _<_}
 use native.Mathlib.Omega.{arith}
 use mathlib.Core.Path.{_≡_, refl, ap, _∙_}
 use mathlib.Core.List.{List, _∷_}
 use lib.ListN.{length, getD, set, length-set}
 use Rattle.pass.specs.Pass.{Item, new}
-use Rattle.pass.specs.Machine.{itemAt, below, fromPlace}
+use Rattle.pass.specs.Machine.{itemAt, fromPlace}
 use Rattle.pass.proofs.Gap.{state-of, below-set, fromPlace-put, rear-set}
 use borrow.Author.Needs.{needs}
 use Rattle.pass.proofs.fused_ahead.Statement.{statement}
@@ -26,23 +26,23 @@ mul-moved c = search needs
 element-copy-out-moved : tie.Need-element-copy-out-moved
 element-copy-out-moved c = search needs
 
-element-write-l : tie.Need-element-write-l
-element-write-l c = search needs
+element-write-machine : tie.Need-element-write-machine
+element-write-machine c = search needs
 
-mul-l : tie.Need-mul-l
-mul-l c = search needs
+mul-machine : tie.Need-mul-machine
+mul-machine c = search needs
 
-element-write-l-2 : tie.Need-element-write-l-2
-element-write-l-2 c = search needs
+element-write-machine-2 : tie.Need-element-write-machine-2
+element-write-machine-2 c = search needs
 
-element-write-l-3 : tie.Need-element-write-l-3
-element-write-l-3 c = search needs
+element-write-machine-3 : tie.Need-element-write-machine-3
+element-write-machine-3 c = search needs
 
-mul-l-2 : tie.Need-mul-l-2
-mul-l-2 c = search needs
+mul-machine-2 : tie.Need-mul-machine-2
+mul-machine-2 c = search needs
 
-element-write-l-4 : tie.Need-element-write-l-4
-element-write-l-4 c = search needs
+element-write-machine-4 : tie.Need-element-write-machine-4
+element-write-machine-4 c = search needs
 
 returns : tie.Need-returns
 returns c =
@@ -80,10 +80,10 @@ fused-ahead-spec =
     element-copy-out-kind
     mul-moved
     element-copy-out-moved
-    element-write-l
-    mul-l
-    element-write-l-2
-    element-write-l-3
-    mul-l-2
-    element-write-l-4
+    element-write-machine
+    mul-machine
+    element-write-machine-2
+    element-write-machine-3
+    mul-machine-2
+    element-write-machine-4
     returns)

@@ -1,11 +1,9 @@
 -- `pass::fused_back` meets its contract: one store in each array, at the place before p. Assumes nothing.
-use Prim.Native.Nat.{ℕ, _+_, _-_, _≤_, _<_}
+use Prim.Native.Nat.{_+_, _-_}
 use native.Mathlib.Omega.{arith}
 use mathlib.Core.Path.{_≡_, refl, ap, _∙_}
-use mathlib.Core.List.{List, _∷_}
-use lib.ListN.{length, getD, set, length-set}
-use Rattle.pass.specs.Pass.{Item, new}
-use Rattle.pass.specs.Machine.{itemAt, below, fromPlace}
+use lib.ListN.{length, set}
+use Rattle.pass.specs.Machine.{below}
 use Rattle.pass.proofs.Gap.{state-of, below-put, fromPlace-set, rear-set}
 use borrow.Author.Needs.{needs}
 use Rattle.pass.proofs.fused_back.Statement.{statement}
@@ -14,17 +12,17 @@ use Rattle.pass.proofs.fused_back.Tie as tie
 sub-before : tie.Need-sub-before
 sub-before c = search needs
 
-element-write-l : tie.Need-element-write-l
-element-write-l c = search needs
+element-write-machine : tie.Need-element-write-machine
+element-write-machine c = search needs
 
-mul-l : tie.Need-mul-l
-mul-l c = search needs
+mul-machine : tie.Need-mul-machine
+mul-machine c = search needs
 
-element-write-l-2 : tie.Need-element-write-l-2
-element-write-l-2 c = search needs
+element-write-machine-2 : tie.Need-element-write-machine-2
+element-write-machine-2 c = search needs
 
-add-l : tie.Need-add-l
-add-l c = search needs
+add-machine : tie.Need-add-machine
+add-machine c = search needs
 
 returns : tie.Need-returns
 returns c =
@@ -46,4 +44,11 @@ returns c =
 
 pub fused-back-spec : {M : Type 1} → statement M
 fused-back-spec =
-    tie.close (tie.spec sub-before element-write-l mul-l element-write-l-2 add-l returns)
+    tie.close
+    (tie.spec
+    sub-before
+    element-write-machine
+    mul-machine
+    element-write-machine-2
+    add-machine
+    returns)

@@ -1,9 +1,8 @@
 -- `pass::load` meets its contract. The invariant: `Laid` says that the records from i on stand from `right` on. The measure is i.
 -- Assumes nothing.
-use Prim.Native.Nat.{ℕ, _+_, _*_, _-_, _/_, _≤_, _<_}
+use Prim.Native.Nat.{ℕ, _-_}
 use native.Mathlib.Omega.{arith}
 use mathlib.Core.Path.{_≡_, refl, ap, subst, _∙_}
-use lib.ListN.{length}
 use Rattle.format.specs.Record.{rowAt, recordOf}
 use Rattle.pass.proofs.Loading.{Laid, laid-start, laid-next, loaded-of-laid}
 use borrow.Author.Needs.{needs}

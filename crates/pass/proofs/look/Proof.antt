@@ -1,10 +1,8 @@
 -- `pass::look` meets its contract: at the front it advances; elsewhere the outcome is that of the cells around p. Assumes nothing.
-use Prim.Native.Nat.{ℕ, _+_, _-_, _≤_, _<_}
-use native.Mathlib.Omega.{arith}
 use native.Mathlib.Nat.{pos-of-ne-zero}
 use mathlib.Core.Path.{_≡_, refl, ap, _∙_}
 use mathlib.Core.Logic.{⊎-elim}
-use Rattle.pass.specs.Pass.{Item, first, rest}
+use Rattle.pass.specs.Pass.{first, rest}
 use Rattle.pass.specs.Machine.{cellItem, afterOf}
 use Rattle.pass.proofs.Carrying.{second-near, second-none, looked-front, sizes-fit, outcome-reaches, looked-of-carried}
 use borrow.Author.Needs.{needs}

@@ -1,10 +1,7 @@
 -- `pass::pass_choice` meets its contract: the list is loaded, the looks are those of the defined pass, and the choice is that of its end items.
 -- Assumes nothing.
-use Prim.Native.Nat.{ℕ, _+_, _*_, _-_, _/_, _≤_, _<_}
-use native.Mathlib.Omega.{arith}
-use mathlib.Core.Path.{_≡_, refl, sym, ap, subst, _∙_}
+use mathlib.Core.Path.{_≡_, ap, _∙_}
 use mathlib.Core.List.{List}
-use lib.ListN.{length}
 use Rattle.format.specs.Record.{recordsOf}
 use Rattle.choice.specs.Choice.{bitBytes}
 use Rattle.area.specs.Area.{over}

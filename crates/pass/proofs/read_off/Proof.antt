@@ -1,9 +1,8 @@
 -- `pass::read_off` meets its contract. The invariant: `Off` says which items the records from i on are still to cover, and what stands in the area.
 -- The measure is the number of records left. Assumes nothing.
-use Prim.Native.Nat.{ℕ, _+_, _*_, _-_, _/_, _≤_, _<_}
+use Prim.Native.Nat.{_-_}
 use native.Mathlib.Omega.{arith}
-use mathlib.Core.Path.{_≡_, refl, sym, ap, subst, _∙_}
-use lib.ListN.{length, set}
+use mathlib.Core.Path.{_≡_, ap, _∙_}
 use Rattle.format.specs.Record.{rowAt, recordOf}
 use Rattle.format.specs.Meaning.{sizeOf}
 use Rattle.pass.proofs.Reading.{Off, off-start, off-room, off-within, off-beyond, off-end}
@@ -12,10 +11,10 @@ use Rattle.pass.proofs.read_off.Statement.{statement}
 use Rattle.pass.proofs.read_off.Tie as tie
 
 abbrev Inv-loop : tie.InvT-loop
-Inv-loop list choice₀ l n at₀ uncovered₀ i₀ choice at uncovered i = Off l list choice₀ choice at uncovered i
+Inv-loop list choice₀ machine n at₀ uncovered₀ i₀ choice at uncovered i = Off machine list choice₀ choice at uncovered i
 
 abbrev μ-loop : tie.MeasureT-loop
-μ-loop list choice₀ l n at₀ uncovered₀ i₀ choice at uncovered i = n - i
+μ-loop list choice₀ machine n at₀ uncovered₀ i₀ choice at uncovered i = n - i
 
 element-copy-out-uncovered : tie.Need-element-copy-out-uncovered Inv-loop μ-loop
 element-copy-out-uncovered c = search needs

@@ -1,8 +1,8 @@
 -- `pass::run` meets its contract. The invariant: `Round` says that the list is sound, that the looks left are enough, and that the pass comes to
 -- what they come to. The measure is the number of looks left. Assumes nothing.
-use Prim.Native.Nat.{ℕ, _+_, _*_, _-_, _≤_, _<_}
+use Prim.Native.Nat.{_*_, _-_}
 use native.Mathlib.Omega.{arith}
-use mathlib.Core.Path.{_≡_, refl}
+use mathlib.Core.Path.{refl}
 use lib.ListN.{length}
 use Rattle.pass.specs.Machine.{rightOf}
 use Rattle.pass.proofs.Rounds.{Round, round-start, looks-left, ready-of-round, round-next, round-end}
@@ -17,34 +17,34 @@ abbrev μ-loop : tie.MeasureT-loop
 μ-loop price list₀ looks₀ list looks = 2 * length (rightOf list₀) - looks
 
 loop-holds : tie.Need-loop-holds Inv-loop μ-loop
-loop-holds c = round-start (c .args .price) (c .args .l) (c .pre) (search needs) (search needs)
+loop-holds c = round-start (c .args .price) (c .args .machine) (c .pre) (search needs) (search needs)
 
 look-requires : tie.Need-look-requires Inv-loop μ-loop
-look-requires c κs = ready-of-round (c .before .before .before .args .price) (rightOf (c .before .before .before .args .l)) (c .before .before .loop .list) (c .before .before .loop .looks) (c .before .before .loop .inv) (omega arith) (c .before .before .before .pre .price-most)
+look-requires c κs = ready-of-round (c .before .before .before .args .price) (rightOf (c .before .before .before .args .machine)) (c .before .before .loop .list) (c .before .before .loop .looks) (c .before .before .loop .inv) (omega arith) (c .before .before .before .pre .price-most)
 
 add-looks : tie.Need-add-looks Inv-loop μ-loop
 add-looks c =
     let g = c .before .before .before .before .before .args in
     let l = c .before .before .before .before .loop in
-    omega (arith, l .inv .few, looks-left (g .price) (rightOf (g .l)) (l .list) (l .looks) (l .inv) (omega arith))
+    omega (arith, l .inv .few, looks-left (g .price) (rightOf (g .machine)) (l .list) (l .looks) (l .inv) (omega arith))
 
 loop-less : tie.Need-loop-less Inv-loop μ-loop
 loop-less c =
     let g = c .before .before .before .before .before .args in
     let l = c .before .before .before .before .loop in
-    omega (arith, looks-left (g .price) (rightOf (g .l)) (l .list) (l .looks) (l .inv) (omega arith))
+    omega (arith, looks-left (g .price) (rightOf (g .machine)) (l .list) (l .looks) (l .inv) (omega arith))
 
 loop-again : tie.Need-loop-again Inv-loop μ-loop
 loop-again c =
     let g = c .before .before .before .before .before .args in
     let l = c .before .before .before .before .loop in
-    round-next (g .price) (rightOf (g .l)) (l .list) (l .looks) (l .inv) (omega arith) (c .before .look .result) (c .before .look .ensures) (search needs) (search needs)
+    round-next (g .price) (rightOf (g .machine)) (l .list) (l .looks) (l .inv) (omega arith) (c .before .look .result) (c .before .look .ensures) (search needs) (search needs)
 
 returns : tie.Need-returns Inv-loop μ-loop
 returns c =
     let g = c .before .before .before .args in
     let l = c .before .before .loop in
-    round-end (g .price) (rightOf (g .l)) (l .list) (l .looks) (l .inv) (omega arith) _ refl refl
+    round-end (g .price) (rightOf (g .machine)) (l .list) (l .looks) (l .inv) (omega arith) _ refl refl
 
 pub run-spec : {M : Type 1} → statement M
 run-spec =

@@ -1,0 +1,19 @@
+-- `demand::figures_of` meets its contract. Assumes nothing.
+use borrow.Author.Needs.{needs}
+use Rattle.demand.proofs.figures_of.Statement.{statement}
+use Rattle.demand.proofs.figures_of.Tie as tie
+
+enum-known-a : tie.Need-enum-known-a
+enum-known-a c = search needs
+
+enum-told : tie.Need-enum-told
+enum-told c = search needs
+
+returns : tie.Need-returns
+returns c = rw (c .enum-told .given .1)
+
+returns-2 : tie.Need-returns-2
+returns-2 c = search needs
+
+pub figures-of-spec : {M : Type 1} → statement M
+figures-of-spec = tie.close (tie.spec enum-known-a enum-told returns returns-2)
