@@ -4,7 +4,6 @@ ghost use Prim.Native.Nat.{_/_};
 ghost use lib.ListN.{length};
 ghost use Rattle.admit.specs.Admit.{lengthsFit, areasFit, admitRuling, admitted, refusalIn};
 ghost use Rattle.price.specs.Price.{priceOf};
-
 use format::Fault;
 use format::Refusal;
 use price::DiskBytes;
@@ -47,7 +46,16 @@ fn areas_fit(list: &[u8], version: &[u8], c: usize, a: usize, b: usize) -> bool
 }
 
 // Checks 1, 2, 3, 9, then record by record 4 to 8, then the short end.
-pub fn admit(e: u32, f: u32, list: &[u8], version: &[u8], store: &[u8], c: usize, a: usize, b: usize) -> Admitted
+pub fn admit(
+    e: u32,
+    f: u32,
+    list: &[u8],
+    version: &[u8],
+    store: &[u8],
+    c: usize,
+    a: usize,
+    b: usize,
+) -> Admitted
     ensures { λ r. ⌜ r ≡ admitted (admitRuling e f (now (list .entry)) (now (version .entry)) (now (store .entry)) c a b) (priceOf e f) ⌝ }
 {
     let priced = price::price_of(e, f);

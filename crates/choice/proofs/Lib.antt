@@ -1,4 +1,3 @@
 pub mod Path
 pub mod Least
-pub mod SheetsHold
 pub mod Lists

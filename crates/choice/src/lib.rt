@@ -3,7 +3,6 @@ ghost use mathlib.Core.Path.{_≡_};
 ghost use Prim.Native.Nat.{_+_, _<_};
 ghost use Rattle.format.specs.Meaning.{sizeOf};
 ghost use Rattle.choice.specs.Choice.{bitOf, chosenRecord};
-
 use format::Record;
 
 // The bytes that a record covers.

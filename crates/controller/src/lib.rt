@@ -8,7 +8,6 @@ ghost use Rattle.price.specs.Price.{measured};
 ghost use Rattle.rebuild.specs.Rebuild.{checked, rebuildAnswer, rebuildArea};
 ghost use Rattle.controller.specs.Layout.{toldOf, layout, given, Answered, lentArea};
 ghost use Rattle.controller.specs.Divides.{PartitionGiven, PassGiven};
-
 use format::Answer;
 
 // The numbers of an answer, in the order of the answer area.
@@ -117,7 +116,13 @@ pub extern "C" fn measure(e: u32, f: u32, list: &[u8], answer: &mut [u8]) -> u32
 
 // Rebuild.
 #[no_mangle]
-pub extern "C" fn rebuild<'a>(list: &[u8], block: &'a [u8], store: &'a [u8], area: &mut [u8], answer: &mut [u8]) -> u32
+pub extern "C" fn rebuild<'a>(
+    list: &[u8],
+    block: &'a [u8],
+    store: &'a [u8],
+    area: &mut [u8],
+    answer: &mut [u8],
+) -> u32
     ensures { λ r. ⌜ Answered (rebuildAnswer (now (list .entry)) (now (block .entry)) (now (store .entry)) (now (area .entry))) (now (answer .entry)) r (now (answer .exit)) ⌝ }
     ensures { λ _. ⌜ now (area .exit) ≡ lentArea (now (answer .entry)) (rebuildArea (now (list .entry)) (now (block .entry)) (now (store .entry)) (now (area .entry))) (now (area .entry)) ⌝ }
 {
@@ -129,24 +134,50 @@ pub extern "C" fn rebuild<'a>(list: &[u8], block: &'a [u8], store: &'a [u8], are
 
 // Partition.
 #[no_mangle]
-pub extern "C" fn partition(e: u32, f: u32, list: &[u8], version: &[u8], store: &[u8], choice: &mut [u8], area: &mut [u8], block: &mut [u8], answer: &mut [u8]) -> u32
+pub extern "C" fn partition(
+    e: u32,
+    f: u32,
+    list: &[u8],
+    version: &[u8],
+    store: &[u8],
+    choice: &mut [u8],
+    area: &mut [u8],
+    block: &mut [u8],
+    answer: &mut [u8],
+) -> u32
     ensures { λ r. ⌜ PartitionGiven e f (now (list .entry)) (now (version .entry)) (now (store .entry)) (now (choice .entry)) (now (area .entry)) (now (block .entry)) (now (answer .entry)) r (now (choice .exit)) (now (area .exit)) (now (block .exit)) (now (answer .exit)) ⌝ }
 {
     if answer.len() < 32 {
         return 9;
     }
-    give(least::partition(e, f, list, version, store, choice, area, block), answer)
+    give(
+        least::partition(e, f, list, version, store, choice, area, block),
+        answer,
+    )
 }
 
 // Pass.
 #[no_mangle]
-pub extern "C" fn pass(e: u32, f: u32, list: &[u8], version: &[u8], store: &[u8], choice: &mut [u8], area: &mut [u8], block: &mut [u8], answer: &mut [u8]) -> u32
+pub extern "C" fn pass(
+    e: u32,
+    f: u32,
+    list: &[u8],
+    version: &[u8],
+    store: &[u8],
+    choice: &mut [u8],
+    area: &mut [u8],
+    block: &mut [u8],
+    answer: &mut [u8],
+) -> u32
     ensures { λ r. ⌜ PassGiven e f (now (list .entry)) (now (version .entry)) (now (store .entry)) (now (choice .entry)) (now (area .entry)) (now (block .entry)) (now (answer .entry)) r (now (choice .exit)) (now (area .exit)) (now (block .exit)) (now (answer .exit)) ⌝ }
 {
     if answer.len() < 32 {
         return 9;
     }
-    give(linear::pass(e, f, list, version, store, choice, area, block), answer)
+    give(
+        linear::pass(e, f, list, version, store, choice, area, block),
+        answer,
+    )
 }
 
 // Check.

@@ -148,7 +148,7 @@ bytes-read l i h k w =
 
     go : (t : Bool) → isNew (rowAt l i) ≡ t
         → bytesOf (cond t (New (wordAt l (12 * i + 4))) (Match (wordAt l (12 * i + 4)) (wordAt l (12 * i + 8))))
-          ≡ getD l (12 * i) 0 ∷ getD l (12 * i + 1) 0 ∷ getD l (12 * i + 2) 0 ∷ getD l (12 * i + 3) 0 ∷ (take 4 (drop (12 * i + 4) l) ++ take 4 (drop (12 * i + 8) l))
+        ≡ getD l (12 * i) 0 ∷ getD l (12 * i + 1) 0 ∷ getD l (12 * i + 2) 0 ∷ getD l (12 * i + 3) 0 ∷ (take 4 (drop (12 * i + 4) l) ++ take 4 (drop (12 * i + 8) l))
     go true e =
         let z : wordAt l (12 * i + 8) ≡ 0 = f .no-address e in
         rw (eqb-true (getD l (12 * i) 0) 0 e, f .second-zero, f .third-zero, f .fourth-zero, ← word-of l (12 * i + 4) h (omega arith), ← word-of l (12 * i + 8) h (omega arith), z)

@@ -3,7 +3,6 @@ pub mod Looks
 pub mod Running
 pub mod Recovering
 pub mod Theorems
-pub mod SheetsHold
 pub mod Gap
 pub mod ByKind
 pub mod Carrying

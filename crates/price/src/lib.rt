@@ -4,7 +4,6 @@
 ghost use mathlib.Core.Path.{_≡_};
 ghost use Prim.Native.Nat.{_+_, _*_, _≤_, _<_};
 ghost use Rattle.price.specs.Price.{priceOf, priced, measured};
-
 use format::Answer;
 use format::Fault;
 use format::Figures;

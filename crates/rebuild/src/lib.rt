@@ -10,7 +10,6 @@ ghost use Rattle.format.specs.Record.{recordsOf};
 ghost use Rattle.walk.specs.Walked.{walked};
 ghost use Rattle.rebuild.specs.Rebuild.{inputsRuling, checked, Rebuilt, Ready, filled};
 ghost use Rattle.rebuild.specs.Show.{whereOf, lent, Lies, shown};
-
 use format::Answer;
 use format::Fault;
 use format::Figures;

@@ -6,7 +6,6 @@ ghost use mathlib.Core.Path.{_≡_};
 ghost use Prim.Native.Nat.{_+_, _*_, _-_, _/_, _≤_, _<_};
 ghost use lib.ListN.{length};
 ghost use Rattle.sweep.specs.Sweep.{Turned, Room, Back, nextBit, forwards, LeastIn};
-
 use format::Record;
 
 // What a record comes to: the least costs from it on, after a kept and after a stored record, and its two bits.
@@ -69,7 +68,12 @@ fn backwards(price: u64, list: &[u8], n: usize, choice: &mut [u8]) -> u64
     let mut stored: u64 = 0;
     while 0 < i {
         i -= 1;
-        let t = weigh(price, format::record_of(format::row_at(list, i)), kept, stored);
+        let t = weigh(
+            price,
+            format::record_of(format::row_at(list, i)),
+            kept,
+            stored,
+        );
         choice[i] = t.hint;
         kept = t.kept;
         stored = t.stored;

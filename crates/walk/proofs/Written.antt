@@ -75,7 +75,11 @@ walk-encode v st l w =
     rw (rows-encode l)
     (fine-of-each (checks scope.Version v st) front (rowsFor l) (
       four-of-sized front l (w .sized),
-      (five-of-apart front l (at-front l) (w .apart),
-        (six-of-whole (length v) front l (omega (arith, whole-agrees st l v (w .agrees))),
-          (seven-of-inside st front l (inside-agrees st l v (w .agrees)), (eight-of-agrees v st front l (w .agrees), tt)))),
+      (
+        five-of-apart front l (at-front l) (w .apart),
+        (
+          six-of-whole (length v) front l (omega (arith, whole-agrees st l v (w .agrees))),
+          (seven-of-inside st front l (inside-agrees st l v (w .agrees)), (eight-of-agrees v st front l (w .agrees), tt)),
+        ),
+      ),
     ))

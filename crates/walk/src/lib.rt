@@ -10,7 +10,6 @@ ghost use Rattle.format.specs.Refusal.{refuse};
 ghost use Rattle.format.specs.Record.{recordsOf, isNew};
 ghost use Rattle.walk.specs.Checks.{sameBytes, within, limitOf, beyond, checks, judged, walkRuling, next};
 ghost use Rattle.walk.specs.Walked.{Lengths, walked, refusalOf};
-
 use format::Fault;
 use format::Refusal;
 use format::Row;

@@ -6,7 +6,6 @@ ghost use lib.ListN.{length};
 ghost use Rattle.format.specs.Record.{bytesOf, encode, recordsOf};
 ghost use Rattle.area.specs.Area.{pasted};
 ghost use Rattle.writer.specs.Write.{fields, jointOf, pending, openSize, flushed, Emits, ListReady, ListWritten, BlockReady, BlockWritten, Writable, Written};
-
 use format::Record;
 
 // A record that is not written yet, as the next may join it.

@@ -1,14 +1,11 @@
+-- `format::list_fits` meets its contract: each way out rewrites `listFits` by the test on the way. Assumes nothing.
 use borrow.Author.Tests.{eq-eqb, ne-eqb, le-leb, lt-leb}
 use Rattle.format.proofs.list_fits.Statement.{statement}
 use Rattle.format.proofs.list_fits.Tie as tie
-use Rattle.format.proofs.list_fits.Reads as reads
-use Rattle.format.proofs.list_fits.Lts as lts
 
--- src/lib.rt:170:9
 returns : tie.Need-returns
 returns c = simp (lt-leb _ _ (c .if1 .taken))
 
--- src/lib.rt:166:1
 returns-2 : tie.Need-returns-2
 returns-2 c = simp (le-leb _ _ (c .if1 .left))
 

@@ -1,14 +1,11 @@
+-- `format::record_of` meets its contract, by the kind. Assumes nothing.
 use borrow.Author.Tests.{eq-eqb, ne-eqb, le-leb, lt-leb}
 use Rattle.format.proofs.record_of.Statement.{statement}
 use Rattle.format.proofs.record_of.Tie as tie
-use Rattle.format.proofs.record_of.Reads as reads
-use Rattle.format.proofs.record_of.Lts as lts
 
--- src/lib.rt:135:9
 returns : tie.Need-returns
 returns c = simp (eq-eqb _ _ (c .if1 .taken))
 
--- src/lib.rt:131:1
 returns-2 : tie.Need-returns-2
 returns-2 c = simp (ne-eqb _ _ (c .if1 .left))
 

@@ -64,9 +64,10 @@ cost-of-requires c κs =
     let sound = sound-of-fine (g .e) (g .f) (g .list .now) (g .version .now) (g .store .now) (length (g .choice .now)) (length (g .area .now)) (length (g .block .now)) (told .0) in
     let p = priceOf (g .e) (g .f) in
     let holds = pass-holds p (recordsOf (g .list .now)) (sound .well-formed .sized) (sound .well-formed .apart) in
-    let passed = rw (told .1) at (c .before .before .before .before .before .before .before .before .before .before .pass-choice .ensures) in
-    (omega (arith, told .1, price-most (g .e) (g .f) (sound .price-fits)),
-      omega (arith, entries-chosen (g .e) (g .f) (g .list .now) (g .version .now) (g .store .now) (g .choice .now) (g .area .now) (g .block .now) sound (divideRuling (g .e) (g .f) (g .list .now) (g .version .now) (g .store .now) (g .choice .now) (g .area .now) (g .block .now)) (told .0) p (passChoiceOf (g .e) (g .f) (g .list .now)) (holds .choice) _ _ _ (c .before .before .before .before .write .result) (passed .1) (c .before .before .before .before .write .ensures), length-list (recordsOf (g .list .now)) (passChoiceOf (g .e) (g .f) (g .list .now)), sound .counted .count-most))
+    let passed = rw (told .1) at (c .before .before .before .before .before .before .before .before .before .before .pass-choice .ensures) in (
+      omega (arith, told .1, price-most (g .e) (g .f) (sound .price-fits)),
+      omega (arith, entries-chosen (g .e) (g .f) (g .list .now) (g .version .now) (g .store .now) (g .choice .now) (g .area .now) (g .block .now) sound (divideRuling (g .e) (g .f) (g .list .now) (g .version .now) (g .store .now) (g .choice .now) (g .area .now) (g .block .now)) (told .0) p (passChoiceOf (g .e) (g .f) (g .list .now)) (holds .choice) _ _ _ (c .before .before .before .before .write .result) (passed .1) (c .before .before .before .before .write .ensures), length-list (recordsOf (g .list .now)) (passChoiceOf (g .e) (g .f) (g .list .now)), sound .counted .count-most),
+    )
 
 same-length : tie.Need-same-length
 same-length c = search needs
