@@ -1,9 +1,9 @@
 -- The checks of partition and pass, one by one; what inputs that pass them have; and that a well-formed list that was written passes them.
 -- Assumes nothing.
-use Prim.Native.Nat.{ℕ, _*_, _/_, _%_, _≤_}
+use Prim.Native.Nat.{ℕ, _*_, _/_, _≤_}
 use native.Mathlib.Omega.{arith}
-use mathlib.Core.Path.{_≡_, refl, sym, _∙_, ap}
-use mathlib.Core.Bool.{Bool, true, false, _&&_}
+use mathlib.Core.Path.{_≡_, refl, _∙_, ap}
+use mathlib.Core.Bool.{true, false, _&&_}
 use mathlib.Core.List.{List}
 use lib.Dec.{eqb, leb}
 use lib.ListN.{length}
@@ -13,12 +13,12 @@ use Rattle.format.specs.declared.Record.{Record}
 use Rattle.format.specs.declared.Refusal.{Refusal}
 use Rattle.format.specs.declared.Ruling.{Ruling}
 use Rattle.format.specs.declared.Ruling.the-variants.{Fine, Stop}
-use Rattle.format.specs.Limits.{listMost, versionMost, storeMost}
+use Rattle.format.specs.Limits.{versionMost, storeMost}
 use Rattle.format.specs.Refusal.{need, refuse, _then_}
 use Rattle.format.specs.Record.{listFits, rowsOf, recordsOf, encode}
 use Rattle.format.specs.Meaning.{whole}
 use Rattle.format.specs.WellFormed.{WellFormed}
-use Rattle.format.proofs.Rulings.{fine-of-then, then-of-fine, true-of-need, both-of-and, and-of-both}
+use Rattle.format.proofs.Rulings.{fine-of-then, true-of-need, both-of-and, and-of-both}
 use Rattle.format.proofs.Rows.{Counted, counted-of-fits}
 use Rattle.format.proofs.Encoding.{length-encode, records-encode, fits-encode}
 use Rattle.format.proofs.Rebuilding.{whole-agrees}

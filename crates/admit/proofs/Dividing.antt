@@ -1,12 +1,11 @@
 -- From admitted inputs, a choice in its area and what was written of it, to the answer and the areas of the call.
 -- Assumes nothing.
-use Prim.Native.Nat.{ℕ, _/_, _≤_}
+use Prim.Native.Nat.{ℕ, _/_}
 use native.Mathlib.Omega.{arith}
-use mathlib.Core.Path.{_≡_, refl, sym, _∙_, ap}
+use mathlib.Core.Path.{_≡_, _∙_, ap}
 use mathlib.Core.List.{List}
 use lib.ListN.{length}
 use Rattle.format.specs.declared.Record.{Record}
-use Rattle.format.specs.declared.Figures.{Figures}
 use Rattle.format.specs.declared.Ruling.{Ruling}
 use Rattle.format.specs.declared.Ruling.the-variants.{Fine, Stop}
 use Rattle.format.specs.declared.Refusal.{Refusal}
@@ -20,8 +19,8 @@ use Rattle.area.specs.Area.{over}
 use Rattle.choice.specs.Choice.{Bit, bitBytes, bitsOf, IsChoice, listOf}
 use Rattle.choice.proofs.Lists.{length-choice, bits-over}
 use Rattle.writer.specs.declared.Wrote.{Wrote}
-use Rattle.writer.specs.Write.{listIn, blockIn, Writable, Written}
-use Rattle.admit.specs.Admit.{figures, Divided}
+use Rattle.writer.specs.Write.{listIn, Writable, Written}
+use Rattle.admit.specs.Admit.{Divided}
 use Rattle.admit.proofs.Admitting.{Sound}
 
 pub divided-refused : (q : Ruling) (x : Refusal) (p : ℕ) (list v choice area block : List ℕ) (c : List Bit) (looks : ℕ) (r : Answer) → q ≡ Stop x → r ≡ Refused x

@@ -19,7 +19,6 @@ use Rattle.format.specs.Record.{listFits, recordsOf, encode}
 use Rattle.format.specs.Meaning.{whole, stored, blockOf}
 use Rattle.walk.specs.declared.Scope.the-variants as scope
 use Rattle.walk.specs.Checks.{checks, walkRuling}
-use Rattle.price.specs.declared.DiskBytes.{DiskBytes}
 use Rattle.price.specs.Price.{priceFits, cost}
 use Rattle.area.specs.Area.{over}
 use Rattle.choice.specs.Choice.{Bit, bitBytes, listOf}

@@ -1,7 +1,6 @@
 // The checks that partition and pass make of their inputs and areas, in their order; they give the price of an entry.
 ghost use mathlib.Core.Path.{_≡_};
 ghost use Prim.Native.Nat.{_/_};
-ghost use lib.ListN.{length};
 ghost use Rattle.admit.specs.Admit.{lengthsFit, areasFit, admitRuling, admitted, refusalIn};
 ghost use Rattle.price.specs.Price.{priceOf};
 use format::Fault;

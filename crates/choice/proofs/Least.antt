@@ -1,19 +1,17 @@
 -- The cost of a choice's list is a path's cost; so the least choice is the path that `pick` picks, and a list partitioned once stays as it is.
 -- Assumes nothing.
-use Prim.Native.Nat.{ℕ, zero, suc, _+_, _*_, _≤_, _<_}
+use Prim.Native.Nat.{ℕ, _+_, _≤_}
 use native.Mathlib.Omega.{arith}
 use native.Mathlib.Nat.{add-assoc}
 use mathlib.Core.Path.{_≡_, refl, sym, _∙_, ap}
-use mathlib.Core.Bool.{Bool, true, false}
-use mathlib.Core.Logic.{_⊎_, inl, inr}
-use mathlib.Core.List.{List, [], _∷_, _++_}
-use lib.ListN.{length}
+use mathlib.Core.Logic.{inl, inr}
+use mathlib.Core.List.{List, [], _∷_}
 use Rattle.format.specs.declared.Record.{Record}
 use Rattle.format.specs.declared.Record.the-variants.{New, Match}
-use Rattle.format.specs.Meaning.{sizeOf, stored}
+use Rattle.format.specs.Meaning.{sizeOf}
 use Rattle.price.specs.Price.{cost}
-use Rattle.choice.specs.Choice.{Bit, keep, store, Free, only, either, freedom, May, IsChoice, choices, fuse, join, chosenRecord, listOf, costOf, firstOf, firstMin, least, Early, IsLeast, keepAll}
-use Rattle.choice.proofs.Path.{Beats, walk, best, pick, first, walk-pick, pick-is-first, pick-fits, pick-beats, best-least, pick-first, first-fits, choices-cong, le-beats, early-antisym}
+use Rattle.choice.specs.Choice.{Bit, keep, store, freedom, May, IsChoice, fuse, join, chosenRecord, listOf, costOf, least, Early, IsLeast, keepAll}
+use Rattle.choice.proofs.Path.{Beats, walk, best, pick, first, walk-pick, pick-is-first, pick-fits, pick-beats, pick-first, first-fits, choices-cong, le-beats, early-antisym}
 
 abbrev pub after : Record → Bit → Bit
 after r b = b

@@ -1,19 +1,18 @@
 -- Laws of the list of a choice: how long it is, what it covers, that it is well formed again, and its stored block.
 -- Assumes nothing.
-use Prim.Native.Nat.{ℕ, zero, suc, _+_, _≤_, _<_}
+use Prim.Native.Nat.{ℕ, suc, _+_, _≤_}
 use native.Mathlib.Omega.{arith}
 use native.Mathlib.Nat.{add-assoc}
 use native.Mathlib.Numerals.{add-one}
-use mathlib.Core.Path.{_≡_, refl, sym, _∙_, ap}
+use mathlib.Core.Path.{_≡_, refl, _∙_, ap}
 use mathlib.Core.List.{List, [], _∷_, _++_, append-assoc}
 use lib.ListN.{length, take, drop, length-drop}
 use lib.Seq.{drop-drop, take-add}
 use Rattle.format.specs.declared.Record.{Record}
 use Rattle.format.specs.declared.Record.the-variants.{New, Match}
-use Rattle.format.specs.Record.{from}
-use Rattle.format.specs.Meaning.{sizeOf, whole, stored, blockOf}
+use Rattle.format.specs.Meaning.{sizeOf, whole, blockOf}
 use Rattle.format.proofs.Encoding.{from-shift}
-use Rattle.format.specs.WellFormed.{Sized, NotNew, Apart, Agrees, WellFormed}
+use Rattle.format.specs.WellFormed.{Sized, Apart, Agrees, WellFormed}
 use Rattle.area.specs.Area.{over}
 use Rattle.choice.specs.Choice.{Bit, keep, store, bitByte, bitBytes, bitAt, bitsOf, IsChoice, fuse, join, chosenRecord, listOf}
 use Rattle.choice.proofs.Least.{keep-store}

@@ -1,7 +1,7 @@
 -- The least path: for any cost that is a sum over the records, where each record's part depends on the state before it and on its bit,
 -- and the state after it on the record and its bit alone, the first least choice is picked from the front by the least costs of what follows.
 -- It never looks into a record. Assumes nothing.
-use Prim.Native.Nat.{ℕ, zero, suc, _+_, _*_, _≤_, _<_}
+use Prim.Native.Nat.{ℕ, _+_, _≤_, _<_}
 use native.Mathlib.Omega.{arith}
 use mathlib.Core.Path.{_≡_, refl, sym, _∙_, ap}
 use mathlib.Core.Bool.{Bool, true, false}

@@ -1,6 +1,5 @@
 // What a choice makes of a record, and whether two neighbouring records become one.
 ghost use mathlib.Core.Path.{_≡_};
-ghost use Prim.Native.Nat.{_+_, _<_};
 ghost use Rattle.format.specs.Meaning.{sizeOf};
 ghost use Rattle.choice.specs.Choice.{bitOf, chosenRecord};
 use format::Record;

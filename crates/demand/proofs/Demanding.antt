@@ -1,39 +1,36 @@
 -- Demand 3 holds of what the contracts of partition, rebuild and pass say, in areas long enough for them.
 -- Assumes nothing.
-use Prim.Native.Nat.{ℕ, _*_, _-_, _/_, _≤_}
+use Prim.Native.Nat.{ℕ, _*_, _≤_}
 use native.Mathlib.Omega.{arith}
 use mathlib.Core.Path.{_≡_, refl, sym, _∙_, ap}
 use mathlib.Core.Bool.{Bool, true, false, cond}
-use mathlib.Core.List.{List, _++_}
+use mathlib.Core.List.{List}
 use lib.Dec.{leb}
-use lib.ListN.{length, take, drop, length-append, length-drop}
+use lib.ListN.{length, take, drop, length-append}
 use lib.Seq.{take-at}
-use borrow.Author.Tests.{leb-true, leb-false, le-leb}
+use borrow.Author.Tests.{leb-true, leb-false}
 use Rattle.format.specs.declared.Record.{Record}
 use Rattle.format.specs.declared.Figures.{Figures}
 use Rattle.format.specs.declared.Answer.{Answer}
-use Rattle.format.specs.declared.Answer.the-variants.{Accepted}
 use Rattle.format.specs.declared.Ruling.{Ruling}
 use Rattle.format.specs.declared.Ruling.the-variants.{Fine}
 use Rattle.format.specs.Record.{recordsOf, encode}
 use Rattle.format.specs.Meaning.{whole, stored, blockOf, rebuilt}
-use Rattle.format.specs.Refusal.{answer, written}
 use Rattle.format.proofs.Encoding.{records-encode, length-encode}
 use Rattle.format.proofs.Rebuilding.{length-block, whole-agrees}
 use Rattle.price.specs.Price.{priceOf, cost}
 use Rattle.area.specs.Area.{over}
-use Rattle.choice.specs.Choice.{Bit, bitBytes, listOf, least, IsLeast, keepAll}
+use Rattle.choice.specs.Choice.{Bit, bitBytes, listOf}
 use Rattle.choice.proofs.Least.{least-is-least, least-fits}
 use Rattle.admit.specs.Admit.{admitRuling, divideRuling, figures, Divided}
 use Rattle.admit.proofs.Admitting.{Sound, sound-of-fine, fine-of-longer, store-most}
-use Rattle.rebuild.specs.Rebuild.{inputsRuling, rebuildRuling, lengthOnly, Rebuilt}
+use Rattle.rebuild.specs.Rebuild.{rebuildRuling, lengthOnly, Rebuilt}
 use Rattle.rebuild.proofs.Accepting.{inputs-written, rebuild-fine}
 use Rattle.least.specs.Partition.{leastOf, Partitioned}
 use Rattle.least.proofs.Theorems.{well-formed-written, count-written, readable-written, rebuilt-written, admitted-again, least-again, list-again}
 use Rattle.pass.specs.Pass.{passChoice, passLooks}
 use Rattle.pass.proofs.Theorems.{pass-holds}
 use Rattle.linear.specs.Linear.{PassedOver}
-use Rattle.demand.specs.declared.Answers.{Answers}
 use Rattle.demand.specs.Demand.{Areas, Demand, shorter, figuresIn, demandRuling}
 
 shorter-left : (a b : ℕ) → shorter a b ≤ a

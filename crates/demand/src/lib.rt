@@ -1,6 +1,6 @@
 // Demand 3 of the mission as one function: it makes partition, rebuild, partition again and pass on lent areas, and its contract is the statement.
 ghost use mathlib.Core.Path.{_≡_};
-ghost use Rattle.demand.specs.Demand.{Areas, shorter, figuresIn, demandRuling, Told};
+ghost use Rattle.demand.specs.Demand.{shorter, figuresIn, demandRuling, Told};
 use admit::Admitted;
 use format::Answer;
 use format::Figures;

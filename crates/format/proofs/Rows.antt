@@ -2,7 +2,7 @@
 -- Assumes nothing.
 use Prim.Native.Nat.{ℕ, zero, suc, _+_, _*_, _-_, _/_, _%_, _≤_, _<_}
 use native.Mathlib.Omega.{arith}
-use native.Mathlib.Nat.{div-add-mod, add-zero, add-assoc}
+use native.Mathlib.Nat.{div-add-mod, add-zero}
 use native.Mathlib.Numerals.{add-one}
 use mathlib.Core.Path.{_≡_, refl, sym, _∙_, ap}
 use mathlib.Core.Bool.{Bool, true, false, not, _&&_, _||_, cond}
@@ -15,7 +15,7 @@ use Rattle.format.specs.declared.Record.{Record}
 use Rattle.format.specs.declared.Record.the-variants.{New, Match}
 use Rattle.format.specs.Record.{from, rowAt, isNew, recordOf, records, recordsOf, wellFormed, listFits}
 use Rattle.format.specs.Limits.{listMost}
-use Rattle.format.specs.Meaning.{sizeOf, whole, stored}
+use Rattle.format.specs.Meaning.{sizeOf, stored}
 use Rattle.format.proofs.Rulings.{both-of-and}
 
 module _ {A : Type 0} (f : ℕ → A) where

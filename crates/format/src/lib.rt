@@ -3,7 +3,6 @@
 // In order: faults and answers; the record's bytes; what is well formed by itself.
 // Not here: what a record must be beside its neighbours, the version and the store (crate `walk`).
 ghost use mathlib.Core.Path.{_≡_};
-ghost use mathlib.Core.Bool.{Bool};
 ghost use Prim.Native.Nat.{_+_, _*_, _≤_, _<_};
 ghost use lib.ListN.{length};
 ghost use Rattle.format.specs.Refusal.{number, refuse};

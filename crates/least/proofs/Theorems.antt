@@ -1,17 +1,17 @@
 -- What partition writes of admitted inputs: a list of the same version, which rebuilds it, measures as the answer says, is admitted again,
 -- and comes back as it is.
 -- Assumes nothing.
-use Prim.Native.Nat.{ℕ, _*_, _/_, _≤_}
+use Prim.Native.Nat.{ℕ, _/_, _≤_}
 use native.Mathlib.Omega.{arith}
-use mathlib.Core.Path.{_≡_, refl, sym, _∙_, ap}
-use mathlib.Core.List.{List, []}
+use mathlib.Core.Path.{_≡_, _∙_, ap}
+use mathlib.Core.List.{List}
 use lib.ListN.{length}
 use Rattle.format.specs.declared.Record.{Record}
 use Rattle.format.specs.declared.Ruling.the-variants.{Fine}
 use Rattle.format.specs.declared.Answer.the-variants.{Accepted}
 use Rattle.format.specs.Limits.{versionMost}
 use Rattle.format.specs.Record.{recordsOf, encode}
-use Rattle.format.specs.Meaning.{whole, stored, blockOf, rebuilt}
+use Rattle.format.specs.Meaning.{whole, blockOf, rebuilt}
 use Rattle.format.specs.WellFormed.{WellFormed, Readable}
 use Rattle.format.proofs.Rows.{length-recordsOf}
 use Rattle.format.proofs.Encoding.{records-encode, fits-encode}
@@ -19,8 +19,8 @@ use Rattle.format.proofs.Rebuilding.{rebuilt-block, length-block, whole-agrees,
 use Rattle.walk.proofs.Written.{walk-sizes}
 use Rattle.price.specs.Price.{priceOf, measured, measures}
 use Rattle.price.proofs.Measuring.{measured-fine}
-use Rattle.choice.specs.Choice.{Bit, IsChoice, listOf, least, keepAll}
-use Rattle.choice.proofs.Least.{again-keeps, again-list, least-fits}
+use Rattle.choice.specs.Choice.{Bit, IsChoice, listOf, keepAll}
+use Rattle.choice.proofs.Least.{again-keeps, again-list}
 use Rattle.choice.proofs.Lists.{length-list, well-formed-list}
 use Rattle.admit.specs.Admit.{admitRuling}
 use Rattle.admit.proofs.Admitting.{Sound, fine-of-written}

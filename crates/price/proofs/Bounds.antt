@@ -1,6 +1,6 @@
 -- The price of an entry and the cost of a list fit 64 bits; what a price in range keeps to.
 -- Assumes nothing.
-use Prim.Native.Nat.{ℕ, _+_, _*_, _≤_, _<_}
+use Prim.Native.Nat.{ℕ, _*_, _≤_}
 use native.Mathlib.Omega.{arith}
 use native.Mathlib.Nat.{mul-le-mul}
 use mathlib.Core.Path.{_≡_, refl, ap}
@@ -9,7 +9,6 @@ use lib.Dec.{leb}
 use borrow.Author.Tests.{leb-true}
 use Rattle.format.proofs.Rulings.{both-of-and}
 use Rattle.price.specs.declared.DiskBytes.{DiskBytes}
-use Rattle.price.specs.declared.Priced.{Priced}
 use Rattle.price.specs.declared.Priced.the-variants.{At, OutOfRange}
 use Rattle.price.specs.Price.{priceFits, priceOf, priced}
 

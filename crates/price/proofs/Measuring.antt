@@ -1,7 +1,7 @@
 -- Measure's answer, check by check.
 -- Assumes nothing.
 use Prim.Native.Nat.{ℕ}
-use mathlib.Core.Path.{_≡_, refl}
+use mathlib.Core.Path.{_≡_}
 use mathlib.Core.Bool.{true, false}
 use mathlib.Core.List.{List, []}
 use Rattle.format.specs.declared.Fault.the-variants.{Price, ListLength}

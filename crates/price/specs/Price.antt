@@ -15,7 +15,6 @@ use Rattle.format.specs.Record.{listFits, recordsOf}
 use Rattle.format.specs.Meaning.{whole, stored}
 use Rattle.walk.specs.declared.Scope.the-variants as scope
 use Rattle.walk.specs.Checks.{checks, walkRuling}
-use Rattle.price.specs.declared.DiskBytes.{DiskBytes}
 use Rattle.price.specs.declared.Priced.{Priced}
 use Rattle.price.specs.declared.Priced.the-variants.{At, OutOfRange}
 

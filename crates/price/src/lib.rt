@@ -3,7 +3,7 @@
 // Index bytes and disk bytes are two units: `worth` alone brings them together.
 ghost use mathlib.Core.Path.{_≡_};
 ghost use Prim.Native.Nat.{_+_, _*_, _≤_, _<_};
-ghost use Rattle.price.specs.Price.{priceOf, priced, measured};
+ghost use Rattle.price.specs.Price.{priced, measured};
 use format::Answer;
 use format::Fault;
 use format::Figures;

@@ -2,7 +2,7 @@
 //
 // All three make the same checks of list, block and store (`accept`); none looks back at them once they are made.
 ghost use mathlib.Core.Path.{_≡_};
-ghost use Prim.Native.Nat.{_+_, _*_, _≤_, _<_};
+ghost use Prim.Native.Nat.{_+_, _≤_, _<_};
 ghost use mathlib.Core.List.{[], _∷_};
 ghost use lib.ListN.{length, take};
 ghost use Rattle.format.specs.Meaning.{stored, partOf};

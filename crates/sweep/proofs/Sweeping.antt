@@ -1,6 +1,6 @@
 -- Laws of the two sweeps: each record's turn is the path's, and what the sweep from the front makes of the hints is the least choice.
 -- Assumes nothing.
-use Prim.Native.Nat.{ℕ, zero, suc, _+_, _*_, _-_, _/_, _%_, _≤_, _<_}
+use Prim.Native.Nat.{ℕ, suc, _+_, _*_, _-_, _/_, _≤_, _<_}
 use native.Mathlib.Omega.{arith}
 use native.Mathlib.Numerals.{add-one}
 use mathlib.Core.Path.{_≡_, refl, sym, _∙_, ap}
@@ -12,7 +12,6 @@ use Rattle.format.specs.declared.Record.{Record}
 use Rattle.format.specs.Record.{rowAt, recordOf, recordsOf}
 use Rattle.format.specs.Meaning.{sizeOf}
 use Rattle.format.proofs.Rows.{recordsFrom, recordsFrom-next, recordsFrom-none, recordsFrom-all, length-recordsOf}
-use Rattle.area.specs.Area.{over}
 use Rattle.choice.specs.Choice.{Bit, keep, store, bitByte, bitBytes, only, either, freedom, least}
 use Rattle.choice.proofs.Path.{pickBit, follow, follow-pick}
 use Rattle.choice.proofs.Least.{after, step, least-pick, least-cost, least-fits}

@@ -2,21 +2,19 @@
 -- Assumes nothing.
 use Prim.Native.Nat.{ℕ, _+_, _≤_}
 use native.Mathlib.Omega.{arith}
-use mathlib.Core.Path.{_≡_, refl, sym, _∙_, ap}
+use mathlib.Core.Path.{_≡_, refl}
 use mathlib.Core.Bool.{Bool, true, false, not, _&&_, _||_, cond}
 use mathlib.Core.List.{List, [], _∷_}
-use lib.Dec.{eqb, leb}
 use lib.ListN.{length, take, drop, length-drop}
 use lib.Seq.{drop-drop, drop-length}
 use borrow.Author.Tests.{leb-true}
 use Rattle.format.specs.declared.Row.{Row}
 use Rattle.format.specs.declared.Record.{Record}
 use Rattle.format.specs.declared.Record.the-variants.{New, Match}
-use Rattle.format.specs.declared.Ruling.{Ruling}
 use Rattle.format.specs.declared.Ruling.the-variants.{Fine}
-use Rattle.format.specs.Record.{isNew, recordOf, records, wellFormed}
-use Rattle.format.specs.Refusal.{need, _then_}
-use Rattle.format.specs.Meaning.{sizeOf, whole}
+use Rattle.format.specs.Record.{isNew, records}
+use Rattle.format.specs.Refusal.{need}
+use Rattle.format.specs.Meaning.{whole}
 use Rattle.format.specs.WellFormed.{Sized, NotNew, Apart, Inside, Agrees}
 use Rattle.format.proofs.Rulings.{fine-of-then, then-of-fine}
 use Rattle.format.proofs.Rows.{size-record, formed-of-test}

@@ -1,19 +1,16 @@
 -- The walk from record i on, one record further, and at its end; and the totals that go with it.
 -- Assumes nothing.
-use Prim.Native.Nat.{ℕ, zero, suc, _+_, _*_, _-_, _/_, _≤_, _<_}
+use Prim.Native.Nat.{ℕ, _+_, _-_, _/_, _≤_, _<_}
 use native.Mathlib.Omega.{arith}
-use mathlib.Core.Path.{_≡_, refl, sym, _∙_, ap}
+use mathlib.Core.Path.{_≡_, refl, _∙_, ap}
 use mathlib.Core.Bool.{Bool, true, false, cond}
 use mathlib.Core.List.{List, [], _∷_}
 use lib.ListN.{length}
 use Rattle.format.specs.declared.Row.{Row}
-use Rattle.format.specs.declared.Record.{Record}
 use Rattle.format.specs.declared.Refusal.{Refusal}
-use Rattle.format.specs.declared.Ruling.{Ruling}
 use Rattle.format.specs.declared.Ruling.the-variants.{Fine, Stop}
-use Rattle.format.specs.Refusal.{_then_}
-use Rattle.format.specs.Record.{from, rowAt, isNew, recordOf, records, recordsOf}
-use Rattle.format.specs.Meaning.{whole, stored, sizeOf}
+use Rattle.format.specs.Record.{from, rowAt, isNew, records, recordsOf}
+use Rattle.format.specs.Meaning.{whole, stored}
 use Rattle.format.proofs.Rows.{from-next, from-none, size-record, stored-record, length-recordsOf}
 use Rattle.walk.specs.declared.Seen.{Seen}
 use Rattle.walk.specs.declared.Totals.{Totals}

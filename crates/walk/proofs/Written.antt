@@ -2,8 +2,8 @@
 -- Assumes nothing.
 use Prim.Native.Nat.{ℕ, _+_, _≤_}
 use native.Mathlib.Omega.{arith}
-use mathlib.Core.Path.{_≡_, refl, sym, _∙_, ap}
-use mathlib.Core.Bool.{Bool, true, false, not, _&&_}
+use mathlib.Core.Path.{_≡_, refl}
+use mathlib.Core.Bool.{Bool, true, false, not}
 use mathlib.Core.List.{List, [], _∷_}
 use lib.ListN.{length, take, drop}
 use lib.Seq.{drop-drop}
@@ -19,7 +19,7 @@ use Rattle.format.proofs.Encoding.{rowFor, rowsFor, rows-encode}
 use Rattle.format.proofs.Rebuilding.{whole-agrees, inside-agrees}
 use Rattle.walk.specs.declared.Seen.{Seen}
 use Rattle.walk.specs.declared.Scope.the-variants as scope
-use Rattle.walk.specs.Checks.{four, five, six, seven, eight, sameBytes, next, front, checks, walkRuling, walkOn}
+use Rattle.walk.specs.Checks.{four, five, six, seven, eight, next, front, checks, walkRuling}
 use Rattle.walk.proofs.Equality.{same-refl}
 use Rattle.walk.proofs.Accepted.{Holds, fine-of-each}
 

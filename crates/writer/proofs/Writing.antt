@@ -1,7 +1,7 @@
 -- Writing record by record: before record i, what is written stands in the area, and the open record with the rest of the choice's list is
 -- what is to come; likewise for the stored block.
 -- Assumes nothing.
-use Prim.Native.Nat.{ℕ, _+_, _*_, _-_, _/_, _≤_, _<_}
+use Prim.Native.Nat.{ℕ, _+_, _-_, _/_, _≤_, _<_}
 use native.Mathlib.Omega.{arith}
 use mathlib.Core.Path.{_≡_, refl, sym, _∙_, ap}
 use mathlib.Core.List.{List, [], _∷_, _++_, append-nil}
@@ -12,13 +12,13 @@ use Rattle.format.specs.declared.Record.the-variants.{New, Match}
 use Rattle.format.specs.Limits.{versionMost}
 use Rattle.format.specs.Record.{from, rowAt, recordOf, records, recordsOf, bytesOf, encode}
 use Rattle.format.specs.Meaning.{sizeOf, whole, stored, blockOf}
-use Rattle.format.proofs.Rows.{recordsFrom, recordsFrom-next, recordsFrom-none, recordsFrom-all, from-next, from-none, length-from, length-recordsOf}
+use Rattle.format.proofs.Rows.{recordsFrom, recordsFrom-next, recordsFrom-none, recordsFrom-all, from-next, length-from, length-recordsOf}
 use Rattle.format.proofs.Rebuilding.{length-block, stored-most}
 use Rattle.format.proofs.Encoding.{encode-append, length-bytes, length-encode}
-use Rattle.area.specs.Area.{pasted, over}
+use Rattle.area.specs.Area.{pasted}
 use Rattle.area.proofs.Pasting.{pasted-none}
 use Rattle.area.proofs.Filling.{Filling, filling-start, filling-put, filling-end, filling-out, filling-room}
-use Rattle.choice.specs.Choice.{Bit, keep, store, bitAt, bitsOf, fuse, join, tidy, chosen, chosenRecord}
+use Rattle.choice.specs.Choice.{bitAt, bitsOf, join, tidy, chosen, chosenRecord}
 use Rattle.choice.proofs.Lists.{size-chosen, block-fuse, whole-list, length-list}
 use Rattle.choice.proofs.Least.{fuse-fuse}
 use Rattle.writer.specs.declared.Open.{Open}

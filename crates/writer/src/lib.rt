@@ -1,9 +1,8 @@
 // Writing what a choice makes of a list: its list, with one record held open, and its stored block.
 ghost use mathlib.Core.Path.{_≡_};
-ghost use mathlib.Core.List.{[], _∷_};
-ghost use Prim.Native.Nat.{_+_, _*_, _/_, _≤_, _<_};
+ghost use Prim.Native.Nat.{_+_, _/_, _≤_, _<_};
 ghost use lib.ListN.{length};
-ghost use Rattle.format.specs.Record.{bytesOf, encode, recordsOf};
+ghost use Rattle.format.specs.Record.{bytesOf, encode};
 ghost use Rattle.area.specs.Area.{pasted};
 ghost use Rattle.writer.specs.Write.{fields, jointOf, pending, openSize, flushed, Emits, ListReady, ListWritten, BlockReady, BlockWritten, Writable, Written};
 use format::Record;

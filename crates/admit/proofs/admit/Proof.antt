@@ -1,7 +1,6 @@
 -- `admit::admit` meets its contract: each way out is the refusal of the check that failed there, or the price. Assumes nothing.
 use Prim.Native.Nat.{ℕ}
-use native.Mathlib.Omega.{arith}
-use mathlib.Core.Path.{_≡_, refl, sym, _∙_, ap}
+use mathlib.Core.Path.{_≡_, sym, _∙_, ap}
 use lib.ListN.{length}
 use borrow.Author.Tests.{not-true, not-false}
 use Rattle.format.specs.declared.Fault.the-variants.{Sizes}
@@ -14,7 +13,6 @@ use Rattle.walk.specs.declared.Totals.{Totals}
 use Rattle.walk.specs.Checks.{checks, walkRuling}
 use Rattle.walk.specs.Walked.{refusalOf}
 use Rattle.walk.proofs.Telling.{fine-of-through, stop-of-stopped}
-use Rattle.price.specs.declared.DiskBytes.{DiskBytes}
 use Rattle.price.proofs.Bounds.{fits-of-at, unfit-of-range}
 use Rattle.admit.specs.declared.Admitted.the-variants.{At, Stopped}
 use Rattle.admit.proofs.Admitting.{lengths-most, admit-price, admit-lengths, admit-list, admit-areas, admit-walk, admit-short, admit-fine}

@@ -1,6 +1,6 @@
 -- `controller::give` meets its contract: the 32 bytes over the area's front. Assumes nothing.
 use Prim.Native.Nat.{ℕ}
-use mathlib.Core.Path.{_≡_, sym, _∙_, ap}
+use mathlib.Core.Path.{_∙_, ap}
 use mathlib.Core.List.{List, _++_}
 use lib.ListN.{length, take, drop}
 use Rattle.controller.specs.declared.Told.{Told}

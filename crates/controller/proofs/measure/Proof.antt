@@ -1,6 +1,4 @@
 -- `controller::measure` meets its contract. Assumes nothing.
-use native.Mathlib.Omega.{arith}
-use mathlib.Core.Path.{_≡_, sym, _∙_}
 use Rattle.controller.proofs.Answering.{answered-short, answered-given}
 use borrow.Author.Needs.{needs}
 use Rattle.controller.proofs.measure.Statement.{statement}

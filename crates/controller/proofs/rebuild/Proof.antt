@@ -1,6 +1,5 @@
 -- `controller::rebuild` meets its contract. Assumes nothing.
-use native.Mathlib.Omega.{arith}
-use mathlib.Core.Path.{_≡_, sym, _∙_}
+use mathlib.Core.Path.{_∙_}
 use Rattle.controller.proofs.Answering.{answered-short, answered-given, lent-short, lent-given}
 use borrow.Author.Needs.{needs}
 use Rattle.controller.proofs.rebuild.Statement.{statement}

@@ -1,7 +1,4 @@
 -- `controller::tell` meets its contract. Assumes nothing.
-use mathlib.Core.Path.{_≡_, sym, _∙_, ap}
-use Prim.Native.Nat.{ℕ}
-use Rattle.controller.specs.declared.Told.{Told}
 use borrow.Author.Needs.{needs}
 use Rattle.controller.proofs.tell.Statement.{statement}
 use Rattle.controller.proofs.tell.Tie as tie

@@ -1,21 +1,14 @@
 -- `demand::demonstrate` meets its contract: the inputs are admitted for the shortest areas, so each of the four calls is accepted, and demand 3 holds
 -- of what they answer and write. Assumes nothing.
-use Prim.Native.Nat.{ℕ, _*_, _-_, _≤_}
+use Prim.Native.Nat.{ℕ, _*_, _-_}
 use native.Mathlib.Omega.{arith}
 use mathlib.Core.Path.{_≡_, refl, sym, _∙_, ap}
-use mathlib.Core.List.{List}
-use lib.ListN.{length, take}
+use lib.ListN.{length}
 use Rattle.format.specs.declared.Figures.{Figures}
 use Rattle.format.specs.declared.Ruling.the-variants.{Fine}
-use Rattle.format.specs.Record.{recordsOf, encode}
-use Rattle.format.specs.Meaning.{blockOf}
 use Rattle.price.specs.Price.{priceOf}
-use Rattle.choice.specs.Choice.{listOf}
 use Rattle.admit.specs.Admit.{admitRuling, refusalIn}
 use Rattle.admit.proofs.Admitting.{fine-of-at, stop-of-stopped}
-use Rattle.rebuild.specs.Rebuild.{Rebuilt}
-use Rattle.least.specs.Partition.{leastOf, Partitioned}
-use Rattle.demand.specs.declared.Answers.{Answers}
 use Rattle.demand.specs.declared.Demonstrated.the-variants as demonstrated
 use Rattle.demand.specs.Demand.{Areas, shorter, figuresIn, demandRuling}
 use Rattle.demand.proofs.Demanding.{list-room, block-room, list-made, block-made, demand-holds}

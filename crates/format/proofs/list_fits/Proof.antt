@@ -1,5 +1,5 @@
 -- `format::list_fits` meets its contract: each way out rewrites `listFits` by the test on the way. Assumes nothing.
-use borrow.Author.Tests.{eq-eqb, ne-eqb, le-leb, lt-leb}
+use borrow.Author.Tests.{le-leb, lt-leb}
 use Rattle.format.proofs.list_fits.Statement.{statement}
 use Rattle.format.proofs.list_fits.Tie as tie
 

@@ -1,5 +1,5 @@
 -- `format::record_of` meets its contract, by the kind. Assumes nothing.
-use borrow.Author.Tests.{eq-eqb, ne-eqb, le-leb, lt-leb}
+use borrow.Author.Tests.{eq-eqb, ne-eqb}
 use Rattle.format.proofs.record_of.Statement.{statement}
 use Rattle.format.proofs.record_of.Tie as tie
 

@@ -1,14 +1,11 @@
 -- `least::partition` meets its contract: refused as the checks say, or the least choice and what is written of it. Assumes nothing.
-use Prim.Native.Nat.{ℕ, _*_, _/_}
 use native.Mathlib.Omega.{arith}
-use mathlib.Core.Path.{_≡_, refl, sym, _∙_, ap}
-use mathlib.Core.List.{List}
+use mathlib.Core.Path.{sym, _∙_, ap}
 use lib.ListN.{length}
 use Rattle.format.specs.declared.Answer.the-variants.{Refused}
 use Rattle.format.specs.Record.{recordsOf}
 use Rattle.price.specs.Price.{priceOf}
 use Rattle.price.proofs.Bounds.{price-most}
-use Rattle.choice.specs.Choice.{bitBytes, least, costOf}
 use Rattle.choice.proofs.Least.{least-fits}
 use Rattle.admit.specs.Admit.{divideRuling, refusalIn}
 use Rattle.admit.proofs.Admitting.{fine-of-at, stop-of-stopped, sound-of-fine}

@@ -1,7 +1,6 @@
 -- `linear::pass` meets its contract: refused as the checks say, or the choice that the machine leaves and what is written of it. Assumes nothing.
-use Prim.Native.Nat.{ℕ, _*_, _/_, _+_}
 use native.Mathlib.Omega.{arith}
-use mathlib.Core.Path.{_≡_, refl, sym, _∙_, ap}
+use mathlib.Core.Path.{_≡_, sym, _∙_, ap}
 use lib.ListN.{length}
 use Rattle.format.specs.declared.Answer.the-variants.{Refused}
 use Rattle.format.specs.Record.{recordsOf}

@@ -1,8 +1,6 @@
 -- `price::measure` meets its contract: each way out is the refusal of the check that failed there, or the figures of the list. Assumes nothing.
-use Prim.Native.Nat.{_≤_}
 use native.Mathlib.Omega.{arith}
-use mathlib.Core.Path.{_≡_, refl, sym, _∙_, ap}
-use lib.ListN.{length}
+use mathlib.Core.Path.{sym, _∙_, ap}
 use borrow.Author.Tests.{not-true, not-false}
 use Rattle.format.specs.declared.Answer.the-variants.{Refused}
 use Rattle.format.specs.Record.{recordsOf}

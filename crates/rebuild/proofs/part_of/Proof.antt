@@ -1,7 +1,6 @@
 -- `rebuild::part_of` meets its contract: the part of the block for a new record, of the store for a match. Assumes nothing.
 use native.Mathlib.Omega.{arith}
 use native.Mathlib.Nat.{add-sub-cancel-left}
-use mathlib.Core.Path.{_≡_, sym, _∙_}
 use borrow.Author.Needs.{needs}
 use Rattle.rebuild.proofs.part_of.Statement.{statement}
 use Rattle.rebuild.proofs.part_of.Tie as tie

@@ -1,17 +1,15 @@
 -- `rebuild::show` meets its contract: the part of record k where check accepts, else the block's first 0 bytes. Assumes nothing.
-use Prim.Native.Nat.{ℕ, _<_}
+use Prim.Native.Nat.{ℕ}
 use native.Mathlib.Omega.{arith}
-use mathlib.Core.Path.{_≡_, refl, sym, _∙_, ap}
-use lib.ListN.{length, take, getD}
-use Rattle.format.specs.declared.Record.{Record}
+use mathlib.Core.Path.{_≡_, sym, _∙_, ap}
+use lib.ListN.{take, getD}
 use Rattle.format.specs.declared.Record.the-variants.{New}
 use Rattle.format.specs.Record.{rowAt, recordOf, recordsOf}
-use Rattle.format.specs.Meaning.{stored, partOf}
+use Rattle.format.specs.Meaning.{stored}
 use Rattle.format.proofs.Rulings.{fine-of-accepted, stop-of-refused}
 use Rattle.format.proofs.Rows.{getD-recordsOf, length-recordsOf}
 use Rattle.format.proofs.Rebuilding.{stored-most}
 use Rattle.rebuild.specs.Rebuild.{checkRuling, lengthOnly}
-use Rattle.rebuild.specs.Show.{lent, Lies}
 use Rattle.rebuild.proofs.Accepting.{checked-parts}
 use Rattle.rebuild.proofs.Copying.{lies-at}
 use borrow.Author.Needs.{needs}

@@ -1,10 +1,10 @@
 -- `rebuild::stored_before` meets its contract. The invariant: `sum` is the stored bytes of the first i records. The measure is what is left of k.
 -- Assumes nothing.
-use Prim.Native.Nat.{ℕ, _+_, _*_, _-_, _/_, _≤_, _<_}
+use Prim.Native.Nat.{ℕ, _+_, _-_, _≤_}
 use native.Mathlib.Omega.{arith}
 use mathlib.Core.Path.{_≡_, refl, sym, _∙_, ap}
 use mathlib.Core.List.{[], _∷_}
-use lib.ListN.{length, take, getD}
+use lib.ListN.{take, getD}
 use Rattle.format.specs.declared.Record.{Record}
 use Rattle.format.specs.declared.Record.the-variants.{New}
 use Rattle.format.specs.Record.{recordOf, recordsOf}

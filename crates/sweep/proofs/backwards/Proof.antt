@@ -1,6 +1,6 @@
 -- `sweep::backwards` meets its contract. The invariant: from record i on, the area holds the hints, and `kept` and `stored` are the least costs of
 -- what follows, each at most a fixed sum for a record. The measure is i. Assumes nothing.
-use Prim.Native.Nat.{ℕ, _+_, _*_, _-_, _≤_, _<_}
+use Prim.Native.Nat.{ℕ, _+_, _*_, _-_, _≤_}
 use native.Mathlib.Omega.{arith}
 use mathlib.Core.Path.{_≡_, refl, sym, _∙_, ap}
 use mathlib.Core.List.{List, _++_}

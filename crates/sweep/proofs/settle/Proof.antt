@@ -1,6 +1,6 @@
 -- `sweep::settle` meets its contract. The invariant: the first i bytes are settled, and the rest settles to what is to come. The measure is what is
 -- left of n. Assumes nothing.
-use Prim.Native.Nat.{ℕ, _+_, _-_, _≤_}
+use Prim.Native.Nat.{ℕ, _-_, _≤_}
 use native.Mathlib.Omega.{arith}
 use mathlib.Core.Path.{_≡_, refl, sym, _∙_, ap}
 use mathlib.Core.List.{List, _++_}

@@ -1,6 +1,6 @@
 -- `walk::judge` meets its contract: each way out is the first check that fails there, or none. Assumes nothing.
-use mathlib.Core.Path.{_≡_, refl, sym, _∙_, ap}
-use mathlib.Core.Bool.{Bool, true, false, _&&_}
+use mathlib.Core.Path.{sym, _∙_, ap}
+use mathlib.Core.Bool.{Bool, _&&_}
 use native.Mathlib.Omega.{arith}
 use borrow.Author.Tests.{not-true, not-false, eq-eqb, ne-eqb}
 use Rattle.walk.proofs.Judged.{judged-malformed, judged-adjacent, judged-sizes, judged-beyond, judged-new}

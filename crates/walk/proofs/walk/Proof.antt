@@ -1,20 +1,16 @@
 -- `walk::walk` meets its contract. The invariant: before row i, `So-far` says what the walk still has to rule on and what the totals are, and
 -- the sizes have stayed within the limit. The measure is the number of rows left. Assumes nothing.
-use Prim.Native.Nat.{ℕ, _+_, _*_, _-_, _/_, _≤_, _<_}
+use Prim.Native.Nat.{ℕ, _-_, _/_, _≤_}
 use native.Mathlib.Omega.{arith}
 use mathlib.Core.Path.{_≡_, refl, sym, _∙_, ap}
 use mathlib.Core.List.{List}
 use lib.ListN.{length}
-use Rattle.format.specs.declared.Record.{Record}
-use Rattle.format.specs.declared.Ruling.{Ruling}
 use Rattle.format.specs.declared.Ruling.the-variants.{Fine}
-use Rattle.format.specs.Limits.{versionMost}
-use Rattle.format.specs.Record.{rowAt, recordsOf}
+use Rattle.format.specs.Record.{rowAt}
 use Rattle.walk.specs.declared.Scope.{Scope}
 use Rattle.walk.specs.declared.Seen.{Seen}
 use Rattle.walk.specs.declared.Walked.the-variants.{Through}
-use Rattle.walk.specs.Checks.{limitOf, checks, judged, next, walkRuling}
-use Rattle.walk.specs.Walked.{walked}
+use Rattle.walk.specs.Checks.{checks, judged, next}
 use Rattle.walk.proofs.Judged.{limit-most, sizes-of-fine}
 use Rattle.walk.proofs.Walking.{So-far, so-far-front, so-far-next, so-far-stop, so-far-end}
 use borrow.Author.Needs.{needs}

@@ -1,6 +1,5 @@
 -- `writer::emit` meets its contract: no record is open, the two join, or the open one is written. Assumes nothing.
 use native.Mathlib.Omega.{arith}
-use mathlib.Core.Path.{_≡_, sym, _∙_}
 use Rattle.writer.proofs.Writing.{emits-first, emits-joint, emits-room, emits-written}
 use borrow.Author.Needs.{needs}
 use Rattle.writer.proofs.emit.Statement.{statement}

@@ -1,9 +1,6 @@
 -- `writer::flush` meets its contract. Assumes nothing.
 use native.Mathlib.Omega.{arith}
-use Prim.Native.Nat.{ℕ}
-use mathlib.Core.Path.{_≡_, refl, sym, _∙_, ap}
-use mathlib.Core.List.{List, append-nil}
-use Rattle.area.specs.Area.{pasted}
+use mathlib.Core.List.{append-nil}
 use Rattle.format.specs.Record.{bytesOf}
 use Rattle.format.proofs.Encoding.{length-bytes}
 use Rattle.area.proofs.Pasting.{pasted-none}

@@ -1,7 +1,6 @@
 -- `writer::write` meets its contract: room follows from lengths, and the two numbers are those of the list. Assumes nothing.
 use native.Mathlib.Omega.{arith}
-use Prim.Native.Nat.{_/_}
-use mathlib.Core.Path.{_≡_, _∙_}
+use mathlib.Core.Path.{_∙_}
 use Rattle.format.proofs.Encoding.{length-encode}
 use Rattle.writer.specs.Write.{listIn}
 use Rattle.writer.proofs.Writing.{list-ready, block-ready, entries-most, block-length, block-most}

@@ -1,8 +1,8 @@
 -- `writer::write_block` meets its contract. The invariant: `Storing` says what stands in the block before record i, and what is to come. The measure is
 -- the number of records left. Assumes nothing.
-use Prim.Native.Nat.{ℕ, _+_, _*_, _-_, _/_, _≤_, _<_}
+use Prim.Native.Nat.{ℕ, _+_, _-_, _/_, _≤_}
 use native.Mathlib.Omega.{arith}
-use mathlib.Core.Path.{_≡_, refl, sym, _∙_, ap}
+use mathlib.Core.Path.{_≡_, refl, _∙_, ap}
 use lib.ListN.{length}
 use Rattle.format.specs.Record.{rowAt, recordOf}
 use Rattle.choice.specs.Choice.{bitAt, chosenRecord}
