@@ -1,0 +1,21 @@
+-- `report::report` meets its contract: the records, then the figures. Assumes nothing.
+use native.Mathlib.Omega.{arith}
+use Rattle.report.proofs.Composing.{written-append}
+use borrow.Author.Needs.{needs}
+use Rattle.report.proofs.report.Statement.{statement}
+use Rattle.report.proofs.report.Tie as tie
+
+put-records-requires : tie.Need-put-records-requires
+put-records-requires c κs = search needs
+
+put-figures-requires : tie.Need-put-figures-requires
+put-figures-requires c κs = search needs
+
+same-length : tie.Need-same-length
+same-length c = search needs
+
+returns : tie.Need-returns
+returns c = written-append (omega arith) (c .before .before .before .before .before .before .put-records .ensures .0) (c .before .before .put-figures .ensures)
+
+pub report-spec : {M : Type 1} → statement M
+report-spec = tie.close (tie.spec put-records-requires put-figures-requires same-length returns)

@@ -1,0 +1,126 @@
+// The text of the program `partition`, made in a lent area: the written records, one line of figures; or a refusal; or the name of a bad file.
+ghost use mathlib.Core.Path.{_≡_};
+ghost use mathlib.Core.List.{_++_};
+ghost use Prim.Native.Nat.{_+_, _*_, _/_, _≤_, _<_};
+ghost use lib.ListN.{length};
+ghost use Rattle.format.specs.Record.{recordsOf};
+ghost use Rattle.area.specs.Area.{pasted};
+ghost use Rattle.report.specs.Text.{decimal, recordText, recordsText, figuresText, reportText, refusalText, badFileText, Written};
+
+use format::Figures;
+use format::Record;
+use format::Refusal;
+
+fn wide(x: u32) -> u64
+    ensures { λ r. ⌜ r ≡ x ⌝ }
+{
+    x as u64
+}
+
+// Copies bytes over the area from `at` on, and gives the place after them.
+fn put_bytes(area: &mut [u8], at: usize, src: &[u8]) -> usize
+    requires { ⌜ at + length (now src) ≤ length (now area) ⌝ }
+    ensures { λ r. ⌜ Written at (now (src .entry)) (now (area .entry)) r (now (area .exit)) ⌝ }
+{
+    area::put(area, at, src);
+    at + src.len()
+}
+
+// Writes a number in decimal from `at` on, and gives the place after it.
+fn put_number(area: &mut [u8], at: usize, n: u64) -> usize
+    requires { ⌜ at + 20 ≤ length (now area) ⌝ }
+    ensures { λ r. ⌜ Written at (decimal n) (now (area .entry)) r (now (area .exit)) ⌝ }
+    ensures { λ r. ⌜ r ≤ at + 20 ⌝ }
+{
+    let mut digits = [0u8; 20];
+    let k = io::decimal(n, &mut digits);
+    put_bytes(area, at, &digits[..k])
+}
+
+// A word and a number after it.
+fn put_field(area: &mut [u8], at: usize, word: &[u8], n: u64) -> usize
+    requires { ⌜ at + length (now word) + 20 ≤ length (now area) ⌝ }
+    ensures { λ r. ⌜ Written at (now (word .entry) ++ decimal n) (now (area .entry)) r (now (area .exit)) ⌝ }
+    ensures { λ r. ⌜ r ≤ at + length (now (word .entry)) + 20 ⌝ }
+{
+    let next = put_bytes(area, at, word);
+    put_number(area, next, n)
+}
+
+// The line of a record.
+fn put_record(area: &mut [u8], at: usize, item: Record) -> usize
+    requires { ⌜ at + 44 ≤ length (now area) ⌝ }
+    ensures { λ r. ⌜ Written at (recordText item) (now (area .entry)) r (now (area .exit)) ⌝ }
+    ensures { λ r. ⌜ r ≤ at + 44 ⌝ }
+{
+    match item {
+        Record::New(size) => {
+            let next = put_field(area, at, b"N ", wide(size));
+            put_bytes(area, next, b"\n")
+        }
+        Record::Match(size, address) => {
+            let next = put_field(area, at, b"M ", wide(size));
+            let last = put_field(area, next, b" ", wide(address));
+            put_bytes(area, last, b"\n")
+        }
+    }
+}
+
+// The lines of a list's records; gives the place after them.
+fn put_records(area: &mut [u8], list: &[u8]) -> usize
+    requires { ⌜ 44 * (length (now list) / 12) ≤ length (now area) ⌝ }
+    ensures { λ r. ⌜ Written 0 (recordsText (recordsOf (now (list .entry)))) (now (area .entry)) r (now (area .exit)) ⌝ }
+    ensures { λ r. ⌜ r ≤ 44 * (length (now (list .entry)) / 12) ⌝ }
+{
+    let n = list.len() / 12;
+    let mut at = 0;
+    let mut i = 0;
+    while i < n {
+        at = put_record(area, at, format::record_of(format::row_at(list, i)));
+        i += 1;
+    }
+    at
+}
+
+// The line of figures: partition's x and the pass's y.
+fn put_figures(area: &mut [u8], at: usize, x: Figures, y: Figures) -> usize
+    requires { ⌜ at + 160 ≤ length (now area) ⌝ }
+    ensures { λ r. ⌜ Written at (figuresText x y) (now (area .entry)) r (now (area .exit)) ⌝ }
+{
+    let a = put_field(area, at, b"cost ", x.cost);
+    let b = put_field(area, a, b" entries ", wide(x.entries));
+    let c = put_field(area, b, b" bytes ", wide(x.stored));
+    let d = put_field(area, c, b" pass ", y.cost);
+    let e = put_field(area, d, b" steps ", wide(y.looks));
+    put_bytes(area, e, b"\n")
+}
+
+// Each written record, then the figures; gives the length of the text.
+pub fn report(area: &mut [u8], list: &[u8], x: Figures, y: Figures) -> usize
+    requires { ⌜ 44 * (length (now list) / 12) + 160 ≤ length (now area) ⌝ }
+    ensures { λ r. ⌜ Written 0 (reportText (recordsOf (now (list .entry))) x y) (now (area .entry)) r (now (area .exit)) ⌝ }
+{
+    let at = put_records(area, list);
+    put_figures(area, at, x, y)
+}
+
+// A refusal; gives the length of the text.
+pub fn refusal(area: &mut [u8], r: Refusal) -> usize
+    requires { ⌜ 160 ≤ length (now area) ⌝ }
+    ensures { λ n. ⌜ Written 0 (refusalText r) (now (area .entry)) n (now (area .exit)) ⌝ }
+{
+    let fault = r.fault;
+    let a = put_field(area, 0, b"refused ", wide(format::number_of(fault)));
+    let b = put_field(area, a, b" at ", wide(r.place));
+    put_bytes(area, b, b"\n")
+}
+
+// The name of a bad file; gives the length of the text.
+pub fn bad_file(area: &mut [u8], name: &[u8]) -> usize
+    requires { ⌜ length (now name) + 160 ≤ length (now area) ⌝ }
+    ensures { λ n. ⌜ Written 0 (badFileText (now (name .entry))) (now (area .entry)) n (now (area .exit)) ⌝ }
+{
+    let a = put_bytes(area, 0, b"bad file ");
+    let b = put_bytes(area, a, name);
+    put_bytes(area, b, b"\n")
+}

@@ -1,0 +1,325 @@
+/* deposit.c - a small controller: a new generation of a file, kept as a list against the old one at the least cost.
+ *
+ *   deposit OLD NEW [E F]
+ *
+ * OLD is the store and NEW the version of document 01; E and F are the price, 16 and 4 where they are not given. It finds matches,
+ * measures the list found, hands it to pass and to partition, and rebuilds NEW from what partition wrote. Nothing goes to disk.
+ *
+ * In order: errors; files; the list; the finder of matches; the calls; the report. Exit 0 where NEW came back, else 1 and one line.
+ */
+#include <errno.h>
+#include <inttypes.h>
+#include <stdarg.h>
+#include <stdio.h>
+#include <stdlib.h>
+#include <string.h>
+
+#include "controller.h"
+
+/* ---- Errors ---- */
+
+static void fail(const char *format, ...)
+{
+    va_list values;
+    va_start(values, format);
+    fputs("deposit: ", stderr);
+    vfprintf(stderr, format, values);
+    fputc('\n', stderr);
+    va_end(values);
+    exit(1);
+}
+
+/* Never NULL, not even for 0 bytes: an empty area too needs a pointer. */
+static void *allocate(size_t length)
+{
+    void *bytes = malloc(length + 1);
+    if (bytes == NULL)
+        fail("no memory for %zu bytes", length);
+    return bytes;
+}
+
+/* ---- Files ---- */
+
+struct bytes {
+    uint8_t *at;
+    size_t length;
+};
+
+/* The whole file, which has at most so many bytes: one more is asked for, to see that it does not come. */
+static struct bytes read_file(const char *name, size_t most)
+{
+    FILE *file = fopen(name, "rb");
+    if (file == NULL)
+        fail("cannot open %s: %s", name, strerror(errno));
+    struct bytes whole = { allocate(most), 0 };
+    whole.length = fread(whole.at, 1, most + 1, file);
+    if (ferror(file))
+        fail("cannot read %s: %s", name, strerror(errno));
+    if (whole.length > most)
+        fail("%s is longer than %zu bytes", name, most);
+    fclose(file);
+    uint8_t *less = realloc(whole.at, whole.length + 1);
+    if (less != NULL)
+        whole.at = less;
+    return whole;
+}
+
+/* ---- The list ---- */
+
+struct list {
+    uint8_t bytes[RECORDS_MOST * RECORD_BYTES];
+    size_t records;
+};
+
+enum { NEW = 0, MATCH = 1 };
+
+static void put_number(uint8_t *at, size_t number)
+{
+    for (int i = 0; i < 4; i++)
+        at[i] = (uint8_t)(number >> (8 * i));
+}
+
+/* Adds a record; one of size 0 is left out. */
+static void add(struct list *list, uint8_t kind, size_t size, size_t address)
+{
+    if (size == 0)
+        return;
+    uint8_t *record = list->bytes + RECORD_BYTES * list->records++;
+    memset(record, 0, RECORD_BYTES);
+    record[0] = kind;
+    put_number(record + 4, size);
+    put_number(record + 8, address);
+}
+
+/* ---- The finder of matches ---- */
+
+/* The store is indexed by its blocks of this many bytes, those at multiples of it. */
+#define BLOCK 16
+
+/* For each hash, 1 + the number of the first block that has it; 0 where none has. */
+struct index {
+    uint32_t *slots;
+    int bits;
+};
+
+static size_t hash(const uint8_t *block, int bits)
+{
+    uint64_t a, b;
+    memcpy(&a, block, 8);
+    memcpy(&b, block + 8, 8);
+    return (size_t)(((a * UINT64_C(0x9e3779b97f4a7c15)) ^ b) * UINT64_C(0xd1342543de82ef95) >> (64 - bits));
+}
+
+static struct index index_blocks(struct bytes store)
+{
+    const size_t blocks = store.length / BLOCK;
+    struct index index = { NULL, 8 };
+    while (index.bits < 24 && (size_t)1 << index.bits < 2 * blocks)
+        index.bits++;
+    const size_t length = sizeof *index.slots << index.bits;
+    index.slots = allocate(length);
+    memset(index.slots, 0, length);
+    for (size_t i = 0; i < blocks; i++) {
+        uint32_t *slot = &index.slots[hash(store.at + BLOCK * i, index.bits)];
+        if (*slot == 0)
+            *slot = (uint32_t)(i + 1);
+    }
+    return index;
+}
+
+/* Where in the store the block begins, or the store's length where the index has it not. */
+static size_t look_up(const struct index *index, struct bytes store, const uint8_t *block)
+{
+    const uint32_t slot = index->slots[hash(block, index->bits)];
+    if (slot == 0 || memcmp(store.at + BLOCK * (size_t)(slot - 1), block, BLOCK) != 0)
+        return store.length;
+    return BLOCK * (size_t)(slot - 1);
+}
+
+/* How many bytes before a and before b are the same, up to most. */
+static size_t same_before(const uint8_t *a, const uint8_t *b, size_t most)
+{
+    size_t n = 0;
+    while (n < most && *(a - n - 1) == *(b - n - 1))
+        n++;
+    return n;
+}
+
+/* How many bytes from a and from b on are the same, up to most. */
+static size_t same_after(const uint8_t *a, const uint8_t *b, size_t most)
+{
+    size_t n = 0;
+    while (n < most && a[n] == b[n])
+        n++;
+    return n;
+}
+
+static size_t lesser(size_t a, size_t b)
+{
+    return a < b ? a : b;
+}
+
+/* Goes through the version: `done` bytes have their records, a block is looked up at p. A match may take three records, the new one
+ * before it and the one after it included; where there is no room for them, the rest is one new record. */
+static void find_matches(struct bytes store, struct bytes version, struct list *list)
+{
+    const struct index index = index_blocks(store);
+    size_t done = 0, p = 0;
+    while (version.length - p >= BLOCK && list->records + 3 <= RECORDS_MOST) {
+        const size_t q = look_up(&index, store, version.at + p);
+        if (q == store.length) {
+            p++;
+            continue;
+        }
+        const size_t back = same_before(version.at + p, store.at + q, lesser(p - done, q));
+        const size_t ahead = same_after(version.at + p, store.at + q, lesser(version.length - p, store.length - q));
+        add(list, NEW, p - back - done, 0);
+        add(list, MATCH, back + ahead, q - back);
+        p += ahead;
+        done = p;
+    }
+    add(list, NEW, version.length - done, 0);
+    free(index.slots);
+}
+
+/* ---- The calls ---- */
+
+/* What is deposited: the list found, version and store, and the price. */
+struct deposit {
+    struct bytes store, version;
+    struct list found;
+    uint32_t e, f;
+};
+
+/* The answer area's fields that are used here. */
+struct answer {
+    uint64_t cost;
+    uint32_t entries, stored, whole;
+};
+
+/* What partition and pass write; block has room for the version. */
+struct written {
+    struct answer answer;
+    uint8_t choice[RECORDS_MOST];
+    uint8_t list[RECORDS_MOST * RECORD_BYTES];
+    uint8_t *block;
+};
+
+typedef uint32_t divide(uint32_t, uint32_t, const uint8_t *, size_t, const uint8_t *, size_t, const uint8_t *, size_t,
+                        uint8_t *, size_t, uint8_t *, size_t, uint8_t *, size_t, uint8_t *, size_t);
+
+static uint64_t number_at(const uint8_t *at, int bytes)
+{
+    uint64_t number = 0;
+    while (bytes > 0)
+        number = number << 8 | at[--bytes];
+    return number;
+}
+
+/* Takes an answer area apart, where the call was accepted. */
+static struct answer answer_of(const char *call, const uint8_t *area)
+{
+    const uint32_t number = (uint32_t)number_at(area, 4);
+    if (number != ACCEPTED)
+        fail("%s refused: number %" PRIu32 " at %" PRIu64, call, number, number_at(area + 4, 4));
+    return (struct answer){ number_at(area + 8, 8), (uint32_t)number_at(area + 16, 4), (uint32_t)number_at(area + 20, 4),
+                            (uint32_t)number_at(area + 28, 4) };
+}
+
+static struct answer measure_found(const struct deposit *d)
+{
+    uint8_t area[ANSWER_BYTES];
+    measure(d->e, d->f, d->found.bytes, RECORD_BYTES * d->found.records, area, sizeof area);
+    return answer_of("measure", area);
+}
+
+/* Partition or pass over the list found. */
+static struct written *divided(const char *name, divide *call, const struct deposit *d)
+{
+    uint8_t area[ANSWER_BYTES];
+    struct written *w = allocate(sizeof *w);
+    w->block = allocate(d->version.length);
+    call(d->e, d->f, d->found.bytes, RECORD_BYTES * d->found.records, d->version.at, d->version.length, d->store.at, d->store.length,
+         w->choice, sizeof w->choice, w->list, sizeof w->list, w->block, d->version.length, area, sizeof area);
+    w->answer = answer_of(name, area);
+    return w;
+}
+
+/* Whether the written list, the stored block and the store give the version back. */
+static int rebuilds(const struct deposit *d, const struct written *w)
+{
+    uint8_t area[ANSWER_BYTES];
+    uint8_t *back = allocate(d->version.length);
+    rebuild(w->list, RECORD_BYTES * (size_t)w->answer.entries, w->block, w->answer.stored, d->store.at, d->store.length,
+            back, d->version.length, area, sizeof area);
+    const struct answer answer = answer_of("rebuild", area);
+    const int same = answer.whole == d->version.length && memcmp(back, d->version.at, d->version.length) == 0;
+    free(back);
+    return same;
+}
+
+/* ---- The report ---- */
+
+static void print_row(const char *way, struct answer a)
+{
+    printf("%-22s %8" PRIu32 " %13" PRIu32 " %13" PRIu64 "\n", way, a.entries, a.stored, a.cost);
+}
+
+static void print_saved(const char *beside, uint64_t cost, uint64_t least)
+{
+    const double share = cost == 0 ? 0 : 100.0 * (double)(cost - least) / (double)cost;
+    printf("saved beside %-19s %26" PRIu64 " (%.1f %%)\n", beside, cost - least, share);
+}
+
+static void print_report(const struct deposit *d, struct answer found, struct answer passed, struct answer least)
+{
+    printf("store %zu bytes, version %zu bytes; E %" PRIu32 ", F %" PRIu32 ": an entry costs %" PRIu32 " disk bytes\n\n",
+           d->store.length, d->version.length, d->e, d->f, d->e * d->f);
+    printf("%-22s %8s %13s %13s\n", "list", "entries", "stored bytes", "cost");
+    print_row("every match kept", found);
+    print_row("the pass", passed);
+    print_row("partition", least);
+    printf("\n");
+    print_saved("every match kept", found.cost, least.cost);
+    print_saved("the pass", passed.cost, least.cost);
+}
+
+static void make_deposit(const struct deposit *d, const char *name)
+{
+    const struct answer found = measure_found(d);
+    struct written *passed = divided("pass", pass, d), *least = divided("partition", partition, d);
+    if (!rebuilds(d, least))
+        fail("what was rebuilt differs from %s", name);
+    print_report(d, found, passed->answer, least->answer);
+    printf("\nrebuilt from %" PRIu32 " records, %" PRIu32 " stored bytes and the store: the same as %s\n", least->answer.entries,
+           least->answer.stored, name);
+    free(passed->block), free(passed);
+    free(least->block), free(least);
+}
+
+/* A number in decimal digits, of at most 9 of them. */
+static uint32_t number_of(const char *text)
+{
+    const size_t length = strlen(text);
+    if (length == 0 || length > 9 || strspn(text, "0123456789") != length)
+        fail("%s is not a number of 1 to 9 digits; usage: deposit OLD NEW [E F]", text);
+    return (uint32_t)strtoul(text, NULL, 10);
+}
+
+int main(int count, char **arguments)
+{
+    if (count != 3 && count != 5)
+        fail("usage: deposit OLD NEW [E F]");
+    struct deposit *d = allocate(sizeof *d);
+    d->e = count == 5 ? number_of(arguments[3]) : 16;
+    d->f = count == 5 ? number_of(arguments[4]) : 4;
+    d->store = read_file(arguments[1], STORE_MOST);
+    d->version = read_file(arguments[2], VERSION_MOST);
+    d->found.records = 0;
+    find_matches(d->store, d->version, &d->found);
+    make_deposit(d, arguments[2]);
+    free(d->store.at), free(d->version.at), free(d);
+    if (fflush(stdout) != 0)
+        fail("cannot write the report");
+    return 0;
+}

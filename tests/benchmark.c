@@ -1,0 +1,296 @@
+/* benchmark.c - the library's calls beside the reference's, in time.
+ *
+ *   benchmark
+ *
+ * Both sides get the same inputs and areas, in turn, and must give the same answer. Every buffer is written beforehand, so that no time
+ * goes into first touches. A time is the median of several samples, and a sample repeats a short call until it can be timed. Prints a
+ * table of times, then how they grow with the records and with the bytes. Nothing is asked of the times.
+ *
+ * In order: the inputs; the calls; time; the tables. Exit 0, or 1 and one line where the answers differ or the usage is bad.
+ */
+#define _POSIX_C_SOURCE 200809L
+#include <stdint.h>
+#include <stdio.h>
+#include <stdlib.h>
+#include <string.h>
+#include <time.h>
+
+#include "controller.h"
+#include "reference.h"
+
+/* E and F: an entry costs 64 disk bytes. */
+enum { E = 16, F = 4 };
+
+/* ---- The inputs ---- */
+
+enum kinds { MATCHES, NEWS, TURNS };
+
+/* A list: so many records over so many bytes, all matches, all new (which is one record) or in turns; 0 bytes: small records. */
+struct shape {
+    const char *name;
+    uint32_t records, bytes;
+    enum kinds kinds;
+};
+
+/* One list with its version, store and stored block, and the areas to write. */
+static struct {
+    uint8_t list[RECORDS_MOST * RECORD_BYTES], list_area[RECORDS_MOST * RECORD_BYTES], choice[RECORDS_MOST];
+    uint8_t *version, *store, *block, *area;
+    size_t list_len, version_len, block_len;
+} in;
+
+#define SEED UINT64_C(0x9e3779b97f4a7c15)
+
+static uint64_t state = SEED;
+
+static uint32_t draw(void)
+{
+    state ^= state >> 12;
+    state ^= state << 25;
+    state ^= state >> 27;
+    return (uint32_t)(state * UINT64_C(0x2545f4914f6cdd1d) >> 32);
+}
+
+static void put_number(uint8_t *at, uint32_t number)
+{
+    for (int i = 0; i < 4; i++)
+        at[i] = (uint8_t)(number >> (8 * i));
+}
+
+/* Adds a record and its bytes; a match's come from the store, a new one's go into the block too. */
+static void add(int is_match, uint32_t size, uint32_t address)
+{
+    uint8_t *record = in.list + in.list_len, *bytes = in.version + in.version_len;
+    memset(record, 0, RECORD_BYTES);
+    record[0] = (uint8_t)is_match;
+    put_number(record + 4, size);
+    put_number(record + 8, is_match ? address : 0);
+    if (is_match) {
+        memcpy(bytes, in.store + address, size);
+    } else {
+        memset(bytes, (int)(draw() & 255), size);
+        memcpy(in.block + in.block_len, bytes, size);
+        in.block_len += size;
+    }
+    in.list_len += RECORD_BYTES;
+    in.version_len += size;
+}
+
+/* A small record: one in three is new where the one before is not; 1 to 128 bytes, half of them up to 48. */
+static void add_small(int *after_new)
+{
+    const uint32_t size = 1 + draw() % (draw() % 2 ? 48 : 128);
+    *after_new = !*after_new && draw() % 3 == 0;
+    add(!*after_new, size, draw() % 65536);
+}
+
+/* The same shape gives the same input each time. */
+static void set_input(const struct shape *shape)
+{
+    int after_new = 0;
+    state = SEED;
+    in.list_len = in.version_len = in.block_len = 0;
+    for (uint32_t i = 0; i < shape->records; i++) {
+        if (shape->bytes == 0) {
+            add_small(&after_new);
+            continue;
+        }
+        const uint32_t size = shape->bytes / shape->records;
+        const int is_match = shape->kinds == MATCHES || (shape->kinds == TURNS && i % 2 == 1);
+        add(is_match, size, (shape->records - 1 - i) * size);
+    }
+}
+
+static uint8_t *touched(size_t length)
+{
+    uint8_t *bytes = malloc(length);
+    if (bytes == NULL) {
+        fprintf(stderr, "benchmark: no memory for %zu bytes\n", length);
+        exit(1);
+    }
+    for (size_t i = 0; i < length; i++)
+        bytes[i] = (uint8_t)draw();
+    return bytes;
+}
+
+static void set_up(void)
+{
+    in.version = touched(VERSION_MOST);
+    in.store = touched(VERSION_MOST);
+    in.block = touched(VERSION_MOST);
+    in.area = touched(VERSION_MOST);
+    memset(in.list_area, 1, sizeof in.list_area);
+    memset(in.choice, 1, sizeof in.choice);
+}
+
+/* ---- The calls ---- */
+
+enum { MEASURE, CHECK, REBUILD, PARTITION, PASS, CALLS };
+enum side { LIBRARY, REFERENCE, SIDES };
+
+static const char *const call_name[CALLS] = { "measure", "check", "rebuild", "partition", "pass" };
+
+static uint8_t answer[SIDES][ANSWER_BYTES];
+
+/* One call of one side; its number. */
+static uint32_t make_call(int call, enum side side)
+{
+    const int ref = side == REFERENCE;
+    uint8_t *to = answer[side];
+    const size_t last = in.list_len / RECORD_BYTES - 1;
+    switch (call) {
+    case MEASURE:
+        return (ref ? ref_measure : measure)(E, F, in.list, in.list_len, to, ANSWER_BYTES);
+    case CHECK:
+        return (ref ? ref_check : check)(in.list, in.list_len, in.block, in.block_len, in.store, VERSION_MOST, (uint32_t)last,
+                                         to, ANSWER_BYTES);
+    case REBUILD:
+        return (ref ? ref_rebuild : rebuild)(in.list, in.list_len, in.block, in.block_len, in.store, VERSION_MOST, in.area,
+                                             VERSION_MOST, to, ANSWER_BYTES);
+    case PARTITION:
+        return (ref ? ref_partition : partition)(E, F, in.list, in.list_len, in.version, in.version_len, in.store, VERSION_MOST,
+                                                 in.choice, RECORDS_MOST, in.list_area, sizeof in.list_area, in.area,
+                                                 VERSION_MOST, to, ANSWER_BYTES);
+    default:
+        return (ref ? ref_pass : pass)(E, F, in.list, in.list_len, in.version, in.version_len, in.store, VERSION_MOST,
+                                       in.choice, RECORDS_MOST, in.list_area, sizeof in.list_area, in.area, VERSION_MOST,
+                                       to, ANSWER_BYTES);
+    }
+}
+
+/* Both sides accept, and answer the same. */
+static void compare_sides(int call, const char *input)
+{
+    const uint32_t number = make_call(call, LIBRARY);
+    if (number == ACCEPTED && make_call(call, REFERENCE) == ACCEPTED && memcmp(answer[LIBRARY], answer[REFERENCE], ANSWER_BYTES) == 0)
+        return;
+    fprintf(stderr, "benchmark: %s, %s: library and reference do not answer the same\n", call_name[call], input);
+    exit(1);
+}
+
+/* ---- Time ---- */
+
+/* The samples of one time, and the seconds after which no more are taken once there are three. */
+enum { SAMPLES = 31 };
+#define LEAST_SAMPLE 0.002
+#define ENOUGH 0.6
+
+/* Median times in seconds. */
+struct times {
+    double of[SIDES];
+};
+
+static double now(void)
+{
+    struct timespec t;
+    clock_gettime(CLOCK_MONOTONIC, &t);
+    return (double)t.tv_sec + 1e-9 * (double)t.tv_nsec;
+}
+
+/* The seconds that so many calls take together. */
+static double seconds(int call, enum side side, unsigned repeats)
+{
+    const double start = now();
+    for (unsigned i = 0; i < repeats; i++)
+        make_call(call, side);
+    return now() - start;
+}
+
+/* How many calls make a sample long enough to be timed. */
+static unsigned repeats_for(int call, enum side side)
+{
+    unsigned repeats = 1;
+    while (seconds(call, side, repeats) < LEAST_SAMPLE && repeats < 1u << 20)
+        repeats *= 2;
+    return repeats;
+}
+
+static int ascending(const void *a, const void *b)
+{
+    const double x = *(const double *)a, y = *(const double *)b;
+    return (x > y) - (x < y);
+}
+
+/* The two sides' medians, sampled in turn. */
+static struct times time_call(int call, const struct shape *shape)
+{
+    double sample[SIDES][SAMPLES];
+    struct times times;
+    set_input(shape);
+    compare_sides(call, shape->name);
+    const unsigned repeats[SIDES] = { repeats_for(call, LIBRARY), repeats_for(call, REFERENCE) };
+    const double start = now();
+    int n = 0;
+    while (n < SAMPLES && (n < 3 || now() - start < ENOUGH)) {
+        for (enum side side = LIBRARY; side < SIDES; side++)
+            sample[side][n] = seconds(call, side, repeats[side]) / repeats[side];
+        n++;
+    }
+    for (enum side side = LIBRARY; side < SIDES; side++) {
+        qsort(sample[side], (size_t)n, sizeof **sample, ascending);
+        times.of[side] = sample[side][n / 2];
+    }
+    return times;
+}
+
+/* ---- The tables ---- */
+
+static const struct shape few = { "16 MiB, 8 records", 8, VERSION_MOST, TURNS };
+static const struct shape many = { "16 MiB, 4,096 records", RECORDS_MOST, VERSION_MOST, TURNS };
+static const struct shape one_match = { "16 MiB, one match", 1, VERSION_MOST, MATCHES };
+static const struct shape one_new = { "16 MiB, one new record", 1, VERSION_MOST, NEWS };
+static const struct shape small = { "4,096 small records", RECORDS_MOST, 0, TURNS };
+static const struct shape even = { "4,096 records of 48 bytes", RECORDS_MOST, 48 * RECORDS_MOST, TURNS };
+static const struct shape even_512 = { "512 records of 48 bytes", 512, 48 * 512, TURNS };
+static const struct shape few_1 = { "1 MiB, 8 records", 8, VERSION_MOST / 16, TURNS };
+
+static void print_times(int call, const struct shape *shape)
+{
+    const struct times t = time_call(call, shape);
+    printf("%-10s %-23s %12.2f %12.2f %8.2f\n", call_name[call], shape->name, 1e6 * t.of[LIBRARY], 1e6 * t.of[REFERENCE],
+           t.of[LIBRARY] / t.of[REFERENCE]);
+    fflush(stdout);
+}
+
+static void print_growth(int call, const struct shape *from, const struct shape *to, const char *name)
+{
+    const struct times a = time_call(call, from), b = time_call(call, to);
+    printf("%-10s %-23s %12.2f %12.2f\n", call_name[call], name, b.of[LIBRARY] / a.of[LIBRARY], b.of[REFERENCE] / a.of[REFERENCE]);
+    fflush(stdout);
+}
+
+static void print_all_times(void)
+{
+    const struct shape *const shapes[] = { &few, &many, &one_match, &one_new, &small };
+    printf("%-10s %-23s %12s %12s %8s\n", "call", "input", "library us", "reference us", "ratio");
+    for (int call = 0; call < CALLS; call++)
+        for (unsigned i = 0; i < sizeof shapes / sizeof *shapes; i++)
+            if (call >= REBUILD || (shapes[i] != &one_match && shapes[i] != &one_new))
+                print_times(call, shapes[i]);
+}
+
+static void print_all_growth(void)
+{
+    printf("\nHow many times as long: from 512 records of 48 bytes to 4,096, and 8 records from 1 MiB to 16 MiB, which no longer\n"
+           "fit the nearer caches.\n\n%-10s %-23s %12s %12s\n", "call", "growth", "library", "reference");
+    for (int call = 0; call < CALLS; call++)
+        print_growth(call, &even_512, &even, "512 to 4,096 records");
+    for (int call = 0; call < CALLS; call++)
+        print_growth(call, &few_1, &few, "1 to 16 MiB");
+}
+
+int main(int count, char **arguments)
+{
+    (void)arguments;
+    if (count != 1) {
+        fprintf(stderr, "usage: benchmark (no arguments)\n");
+        return 1;
+    }
+    set_up();
+    printf("Library and reference in turn, medians of 3 to %d samples; every buffer was written beforehand. E %d, F %d.\n"
+           "Records in turns are new, match, new, match, of one size; small ones have 1 to 128 bytes, new or match by chance.\n\n",
+           SAMPLES, E, F);
+    print_all_times();
+    print_all_growth();
+    return 0;
+}

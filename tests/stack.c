@@ -1,0 +1,184 @@
+/* stack.c - how much stack each call of controller.h takes.
+ *
+ * Each call runs on a stack of its own that is painted beforehand, and the depth is where the paint ends. Two paints are used, since
+ * a call may write a byte that looks like one. The few frames that lead to the call are counted with it, and `nothing` shows them
+ * alone. The lists are full (4,096 records) and lead through the merges of the pass, a stored and a kept list, and refusals.
+ *
+ * One line for each call, in bytes. Exit 0 where none takes more than 262,144, else 1.
+ */
+#define _XOPEN_SOURCE 700
+#include <stdint.h>
+#include <stdio.h>
+#include <stdlib.h>
+#include <string.h>
+#include <ucontext.h>
+
+#include "controller.h"
+
+enum { MOST = 262144, STACK = 4 * MOST, BYTES = 64 * RECORDS_MOST };
+
+/* ---- The inputs ---- */
+
+/* One list, with its price and the lengths that go with it. */
+static struct {
+    uint32_t e, f;
+    uint8_t list[RECORDS_MOST * RECORD_BYTES];
+    size_t length, stored;
+} input;
+
+/* Version, store and stored block are zeros: every match is one. */
+static uint8_t zeros[BYTES];
+static uint8_t choice[RECORDS_MOST], list_area[RECORDS_MOST * RECORD_BYTES], area[BYTES], answer[ANSWER_BYTES];
+
+/* A list: sizes from `size` on, which go round in `round`, and a new record at each multiple of `new_every`, if that is not 0. */
+struct shape {
+    const char *name;
+    uint32_t e, f;
+    unsigned size, round, new_every;
+    uint32_t number;
+};
+
+/* At P = 10 no merge, then merges 1 to 4; all stored at the greatest price; refused at the price, and at the last record. */
+static const struct shape shapes[] = {
+    { "matches kept", 10, 1, 20, 1, 0, ACCEPTED },
+    { "merge 1", 10, 1, 19, 1, 2, ACCEPTED },
+    { "merges 2 and 3", 10, 1, 5, 9, 7, ACCEPTED },
+    { "merge 4", 10, 1, 4, 1, 0, ACCEPTED },
+    { "all stored", 255, 65535, 9, 40, 3, ACCEPTED },
+    { "price refused", 0, 1, 9, 1, 3, BAD_PRICE },
+    { "last record refused", 10, 1, 9, 1, 3, MALFORMED_RECORD },
+};
+
+enum { SHAPES = sizeof shapes / sizeof *shapes };
+
+static void set_input(const struct shape *shape)
+{
+    memset(&input, 0, sizeof input);
+    input.e = shape->e;
+    input.f = shape->f;
+    for (unsigned i = 0; i < RECORDS_MOST; i++) {
+        const unsigned size = shape->size + i % shape->round;
+        const int is_new = shape->new_every && i % shape->new_every == 0;
+        uint8_t *record = input.list + RECORD_BYTES * i;
+        record[0] = !is_new;
+        record[4] = (uint8_t)size;
+        input.length += size;
+        input.stored += is_new ? size : 0;
+    }
+    if (shape->number == MALFORMED_RECORD)
+        input.list[RECORD_BYTES * (RECORDS_MOST - 1)] = 2;
+}
+
+/* ---- The calls ---- */
+
+static uint32_t number;
+
+static void call_nothing(void)
+{
+    number = 0;
+}
+
+static void call_measure(void)
+{
+    number = measure(input.e, input.f, input.list, sizeof input.list, answer, sizeof answer);
+}
+
+static void call_rebuild(void)
+{
+    number = rebuild(input.list, sizeof input.list, zeros, input.stored, zeros, BYTES, area, BYTES, answer, sizeof answer);
+}
+
+static void call_check(void)
+{
+    number = check(input.list, sizeof input.list, zeros, input.stored, zeros, BYTES, RECORDS_MOST - 1, answer, sizeof answer);
+}
+
+static void call_partition(void)
+{
+    number = partition(input.e, input.f, input.list, sizeof input.list, zeros, input.length, zeros, BYTES, choice, sizeof choice,
+                       list_area, sizeof list_area, area, BYTES, answer, sizeof answer);
+}
+
+static void call_pass(void)
+{
+    number = pass(input.e, input.f, input.list, sizeof input.list, zeros, input.length, zeros, BYTES, choice, sizeof choice,
+                  list_area, sizeof list_area, area, BYTES, answer, sizeof answer);
+}
+
+/* The calls, and whether E and F go into them. */
+static const struct call {
+    const char *name;
+    void (*run)(void);
+    int priced;
+} calls[] = {
+    { "measure", call_measure, 1 },
+    { "rebuild", call_rebuild, 0 },
+    { "check", call_check, 0 },
+    { "partition", call_partition, 1 },
+    { "pass", call_pass, 1 },
+};
+
+enum { CALLS = sizeof calls / sizeof *calls };
+
+/* ---- The depth ---- */
+
+static _Alignas(64) uint8_t stack[STACK];
+static ucontext_t here, there;
+
+/* How deep a function goes on a stack painted so; it grows downwards. */
+static size_t depth_on(void (*run)(void), uint8_t paint)
+{
+    memset(stack, paint, STACK);
+    getcontext(&there);
+    there.uc_stack.ss_sp = stack;
+    there.uc_stack.ss_size = STACK;
+    there.uc_link = &here;
+    makecontext(&there, run, 0);
+    if (swapcontext(&here, &there) != 0) {
+        printf("stack: a context could not be entered\n");
+        exit(1);
+    }
+    size_t untouched = 0;
+    while (untouched < STACK && stack[untouched] == paint)
+        untouched++;
+    return STACK - untouched;
+}
+
+static size_t greater(size_t a, size_t b)
+{
+    return a > b ? a : b;
+}
+
+static size_t depth_of(void (*run)(void))
+{
+    return greater(depth_on(run, 0xA5), depth_on(run, 0x5A));
+}
+
+/* The greatest depth of a call over all lists; the first run, on the common stack, lets what is linked late be linked. */
+static size_t greatest_depth(const struct call *call)
+{
+    size_t most = 0;
+    for (unsigned i = 0; i < SHAPES; i++) {
+        set_input(&shapes[i]);
+        call->run();
+        const uint32_t expected = shapes[i].number == BAD_PRICE && !call->priced ? ACCEPTED : shapes[i].number;
+        if (number != expected) {
+            printf("stack: %s answers %u on '%s'\n", call->name, (unsigned)number, shapes[i].name);
+            exit(1);
+        }
+        most = greater(most, depth_of(call->run));
+    }
+    return most;
+}
+
+int main(void)
+{
+    int over = 0;
+    printf("stack: %-9s %6zu bytes\n", "nothing", depth_of(call_nothing));
+    for (unsigned i = 0; i < CALLS; i++) {
+        const size_t depth = greatest_depth(&calls[i]);
+        printf("stack: %-9s %6zu bytes%s\n", calls[i].name, depth, depth > MOST ? ", over 262144" : "");
+        over |= depth > MOST;
+    }
+    return over;
+}
