@@ -6,7 +6,6 @@ ghost use lib.ListN.{length};
 ghost use Rattle.format.specs.Record.{recordsOf};
 ghost use Rattle.area.specs.Area.{pasted};
 ghost use Rattle.report.specs.Text.{decimal, recordText, recordsText, figuresText, reportText, refusalText, badFileText, Written};
-
 use format::Figures;
 use format::Record;
 use format::Refusal;

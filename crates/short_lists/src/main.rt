@@ -1,4 +1,6 @@
-// Every short list over a few sizes: what partition makes of it, against a brute count of all its choices.
+// Every short list over a few sizes: what partition makes of it, against a brute count of all its choices, and what pass makes of it,
+// against a second writing of its rules. Answers and areas are compared to the last byte. Pass is also held to its bounds: it costs
+// no less than partition and no more than the list handed in, and takes at most 2n - 1 looks at n records, none at none.
 //
 // The lists have 0 to 6 records, new or match, of sizes 1, 3, 4, 7 and 8, around P = 4 (E 2, F 2) and 2P. Kinds of n records,
 // no new one right after a new one, there are 1, 2, 3, 5, 8, 13, 21 (each the sum of the two before), and with 5 sizes for each
@@ -6,6 +8,7 @@
 // A choice is free at each match, so the choices are 1 + 3 * 5 + 8 * 25 + 22 * 125 + 60 * 625 + 164 * 3125 + 448 * 15625 = 7,552,966.
 mod brute;
 mod lists;
+mod rules;
 mod trial;
 
 use trial::Tally;
@@ -44,5 +47,7 @@ fn main() {
     say(b"lists ", tally.lists);
     say(b"choices ", tally.choices);
     say(b"lists with a tie ", tally.ties);
+    say(b"passes dearer ", tally.dearer);
+    say(b"looks ", tally.looks);
     say(b"wrong ", tally.wrong);
 }

@@ -1,15 +1,34 @@
-// One list: what the calls make of it, against the brute count.
+// One list: what partition makes of it, against the brute count, and what pass makes of it, against the rules.
 use crate::brute;
 use crate::lists;
+use crate::rules;
 use brute::Count;
 use format::Answer;
 
-// Of the lists tried: how many, their choices, the lists with two or more least choices, and the wrong answers.
+// Of the lists tried: how many, their choices, the lists with two or more least choices, the passes dearer than partition, the looks
+// of all passes, and the lists on which an answer is wrong.
 pub struct Tally {
     pub lists: usize,
     pub choices: usize,
     pub ties: usize,
+    pub dearer: usize,
+    pub looks: usize,
     pub wrong: usize,
+}
+
+// The figures that a call is to answer.
+struct Due {
+    cost: usize,
+    entries: usize,
+    stored: usize,
+    looks: usize,
+}
+
+// What came of the pass on a list: the cost and the looks due, and whether they and all else are right.
+struct Outcome {
+    cost: usize,
+    looks: usize,
+    right: bool,
 }
 
 pub fn no_lists() -> Tally {
@@ -17,16 +36,22 @@ pub fn no_lists() -> Tally {
         lists: 0,
         choices: 0,
         ties: 0,
+        dearer: 0,
+        looks: 0,
         wrong: 0,
     }
 }
 
 // One list more.
-fn tallied(mut tally: Tally, count: Count, right: bool) -> Tally {
+fn tallied(mut tally: Tally, count: Count, passed: Outcome, right: bool) -> Tally {
     tally.lists = lists::plus(tally.lists, 1);
     tally.choices = lists::plus(tally.choices, count.choices);
+    tally.looks = lists::plus(tally.looks, passed.looks);
     if 1 < count.least {
         tally.ties = lists::plus(tally.ties, 1);
+    }
+    if count.cost < passed.cost {
+        tally.dearer = lists::plus(tally.dearer, 1);
     }
     if !right {
         tally.wrong = lists::plus(tally.wrong, 1);
@@ -48,21 +73,21 @@ fn same(a: &[u8], b: &[u8]) -> bool {
     true
 }
 
-// Whether partition answers the figures of the least choice, and none that it does not give.
-fn figures_are(answer: Answer, count: Count) -> bool {
+// Whether a call answers the figures due, and a whole length of 0, which neither call gives.
+fn figures_are(answer: Answer, due: Due) -> bool {
     let Answer::Accepted(figures) = answer else {
         return false;
     };
-    if figures.cost != count.cost as u64 {
+    if figures.cost != due.cost as u64 {
         return false;
     }
-    if figures.entries as usize != count.entries {
+    if figures.entries as usize != due.entries {
         return false;
     }
-    if figures.stored as usize != count.stored {
+    if figures.stored as usize != due.stored {
         return false;
     }
-    if figures.looks != 0 {
+    if figures.looks as usize != due.looks {
         return false;
     }
     figures.whole == 0
@@ -91,7 +116,7 @@ fn partition_gives(
     list: &[u8],
     version: &[u8],
     store: &[u8],
-    count: Count,
+    due: Due,
     bits: &[u8],
     new_list: &[u8],
     stored: &[u8],
@@ -109,13 +134,13 @@ fn partition_gives(
         &mut area,
         &mut block,
     );
-    if !figures_are(answer, count) {
+    if !figures_are(answer, due) {
         return false;
     }
     areas_are(&choice, &area, &block, bits, new_list, stored)
 }
 
-// Whether partition gives the choice in `bits`, its list and its stored block, and leaves what lies beyond them.
+// Whether partition gives the choice in `bits`, its list and its stored block, and leaves what lies beyond them. It has no looks.
 fn partition_right(
     n: usize,
     sizes: &[u8],
@@ -129,11 +154,119 @@ fn partition_right(
     let mut stored = [238u8; 56];
     brute::write_list(n, sizes, bits, &mut new_list);
     brute::write_block(n, sizes, bits, version, &mut stored);
-    partition_gives(list, version, store, count, bits, &new_list, &stored)
+    let due = Due {
+        cost: count.cost,
+        entries: count.entries,
+        stored: count.stored,
+        looks: 0,
+    };
+    partition_gives(list, version, store, due, bits, &new_list, &stored)
+}
+
+// Runs pass in areas that hold 238 everywhere.
+fn pass_gives(
+    list: &[u8],
+    version: &[u8],
+    store: &[u8],
+    due: Due,
+    bits: &[u8],
+    new_list: &[u8],
+    stored: &[u8],
+) -> bool {
+    let mut choice = [238u8; 8];
+    let mut area = [238u8; 80];
+    let mut block = [238u8; 56];
+    let answer = linear::pass(
+        2,
+        2,
+        list,
+        version,
+        store,
+        &mut choice,
+        &mut area,
+        &mut block,
+    );
+    if !figures_are(answer, due) {
+        return false;
+    }
+    areas_are(&choice, &area, &block, bits, new_list, stored)
+}
+
+// Whether pass gives the choice in `bits`, its list and its stored block, and leaves what lies beyond them.
+fn pass_right(
+    n: usize,
+    sizes: &[u8],
+    list: &[u8],
+    version: &[u8],
+    store: &[u8],
+    due: Due,
+    bits: &[u8],
+) -> bool {
+    let mut new_list = [238u8; 80];
+    let mut stored = [238u8; 56];
+    brute::write_list(n, sizes, bits, &mut new_list);
+    brute::write_block(n, sizes, bits, version, &mut stored);
+    pass_gives(list, version, store, due, bits, &new_list, &stored)
+}
+
+// The most looks at n records: 2n - 1, and none at none.
+fn most_looks(n: usize) -> usize {
+    if n == 0 {
+        return 0;
+    }
+    lists::plus(n, n - 1)
+}
+
+// Whether a pass over n records keeps its bounds: it costs no less than the least choice and no more than the list handed in, and
+// takes no more looks than it may.
+fn bounded(n: usize, due: Due, least: usize, given: usize) -> bool {
+    if due.cost < least {
+        return false;
+    }
+    if given < due.cost {
+        return false;
+    }
+    due.looks <= most_looks(n)
+}
+
+// Tries pass against the rules, and the rules against the bounds; `least` is the cost of the least choice.
+fn pass_tried(
+    n: usize,
+    kinds: &[u8],
+    sizes: &[u8],
+    list: &[u8],
+    version: &[u8],
+    store: &[u8],
+    least: usize,
+) -> Outcome {
+    let mut end_kinds = [2u8; 8];
+    let mut end_sizes = [0u8; 8];
+    let mut bits = [238u8; 8];
+    lists::copy(lists::first(kinds, n), &mut end_kinds, 1);
+    lists::copy(lists::first(sizes, n), &mut end_sizes, 1);
+    let given = rules::measured(&end_kinds, &end_sizes);
+    let looks = rules::go(&mut end_kinds, &mut end_sizes);
+    rules::write_choice(n, sizes, &end_kinds, &end_sizes, &mut bits);
+    let end = rules::measured(&end_kinds, &end_sizes);
+    let due = Due {
+        cost: end.cost,
+        entries: end.entries,
+        stored: end.stored,
+        looks,
+    };
+    let mut right = pass_right(n, sizes, list, version, store, due, &bits);
+    if !bounded(n, due, least, given.cost) {
+        right = false;
+    }
+    Outcome {
+        cost: end.cost,
+        looks,
+        right,
+    }
 }
 
 // Tries the calls on a list that is written out, with its version and store. Another call on the same list has its place here,
-// beside `partition_right`, and its own count in `Tally`.
+// and its own count in `Tally`.
 fn tried(
     n: usize,
     kinds: &[u8],
@@ -145,8 +278,12 @@ fn tried(
 ) -> Tally {
     let mut bits = [238u8; 8];
     let count = brute::count_all(n, kinds, sizes, &mut bits);
-    let right = partition_right(n, sizes, list, version, store, count, &bits);
-    tallied(tally, count, right)
+    let passed = pass_tried(n, kinds, sizes, list, version, store, count.cost);
+    let mut right = partition_right(n, sizes, list, version, store, count, &bits);
+    if !passed.right {
+        right = false;
+    }
+    tallied(tally, count, passed, right)
 }
 
 // Tries a list of these kinds and sizes.

@@ -1,0 +1,4 @@
+// The program `partition`, run on a price of 3 bytes.
+fn main() {
+    program::run();
+}

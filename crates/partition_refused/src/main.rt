@@ -1,0 +1,4 @@
+// The program `partition`, run on a list whose match runs beyond the store.
+fn main() {
+    program::run();
+}

@@ -1,0 +1,4 @@
+// The program `partition`, run on a list of several records with addresses.
+fn main() {
+    program::run();
+}
