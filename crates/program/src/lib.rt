@@ -66,8 +66,8 @@ fn write_report(list: &[u8], x: Figures, y: Figures) {
 // Runs the pass on what partition was given, and writes out partition's list with both figures.
 fn pass(e: u32, f: u32, items: &[u8], version: &[u8], store: &[u8], list: &[u8], x: Figures) {
     let mut choice = [0u8; 8192];
-    let mut area = [0u8; 65536];
-    let mut block = [0u8; 65536];
+    let mut area = io::large_buffer();
+    let mut block = io::large_buffer();
     let answer = linear::pass(
         e,
         f,
@@ -87,8 +87,8 @@ fn pass(e: u32, f: u32, items: &[u8], version: &[u8], store: &[u8], list: &[u8],
 // Runs partition, then the pass.
 fn divide(e: u32, f: u32, items: &[u8], version: &[u8], store: &[u8]) {
     let mut choice = [0u8; 8192];
-    let mut area = [0u8; 65536];
-    let mut block = [0u8; 65536];
+    let mut area = io::large_buffer();
+    let mut block = io::large_buffer();
     let answer = least::partition(
         e,
         f,
@@ -112,9 +112,9 @@ fn divide(e: u32, f: u32, items: &[u8], version: &[u8], store: &[u8]) {
 
 // The three files after the price.
 fn with_price(e: u32, f: u32) {
-    let mut items = [0u8; 65536];
-    let mut version = [0u8; 65536];
-    let mut store = [0u8; 65536];
+    let mut items = io::large_buffer();
+    let mut version = io::large_buffer();
+    let mut store = io::large_buffer();
     let read = read_file(b"items", &mut items);
     let Read::Bytes(i) = read else {
         return bad_file(b"items");
@@ -138,7 +138,7 @@ fn with_price(e: u32, f: u32) {
 
 // The whole program, in the folder where it is run.
 pub fn run() {
-    let mut price = [0u8; 65536];
+    let mut price = io::large_buffer();
     let read = read_file(b"price", &mut price);
     let Read::Bytes(n) = read else {
         return bad_file(b"price");
