@@ -82,16 +82,16 @@ static void put_record(uint8_t *list, size_t i, uint8_t kind, uint32_t size, uin
 }
 
 /* N5 M19 N5: 29 bytes of 'A', of which the store has 19. */
-static uint8_t sheet[3 * RECORD_BYTES], version[29], store[19], block[10];
+static uint8_t items[3 * RECORD_BYTES], version[29], store[19], block[10];
 
 static void set_up(void)
 {
     memset(version, 'A', sizeof version);
     memset(store, 'A', sizeof store);
     memset(block, 'A', sizeof block);
-    put_record(sheet, 0, 0, 5, 0);
-    put_record(sheet, 1, 1, 19, 0);
-    put_record(sheet, 2, 0, 5, 0);
+    put_record(items, 0, 0, 5, 0);
+    put_record(items, 1, 1, 19, 0);
+    put_record(items, 2, 0, 5, 0);
     fill_areas();
 }
 
@@ -100,49 +100,49 @@ static void set_up(void)
 static void test_measure(void)
 {
     set_up();
-    expect("measure accepts", measure(10, 1, sheet, sizeof sheet, answer, sizeof answer) == ACCEPTED && answered(0, 0, 40, 3, 10, 0, 29));
+    expect("measure accepts", measure(10, 1, items, sizeof items, answer, sizeof answer) == ACCEPTED && answered(0, 0, 40, 3, 10, 0, 29));
     set_up();
-    expect("measure of no records", measure(10, 1, sheet, 0, answer, sizeof answer) == ACCEPTED && answered(0, 0, 0, 0, 0, 0, 0));
+    expect("measure of no records", measure(10, 1, items, 0, answer, sizeof answer) == ACCEPTED && answered(0, 0, 0, 0, 0, 0, 0));
     set_up();
-    expect("measure, E 256", measure(256, 1, sheet, sizeof sheet, answer, sizeof answer) == BAD_PRICE && refused(1, 0));
+    expect("measure, E 256", measure(256, 1, items, sizeof items, answer, sizeof answer) == BAD_PRICE && refused(1, 0));
     set_up();
-    expect("measure, 35 bytes", measure(10, 1, sheet, 35, answer, sizeof answer) == BAD_LIST_LENGTH && refused(3, 0));
+    expect("measure, 35 bytes", measure(10, 1, items, 35, answer, sizeof answer) == BAD_LIST_LENGTH && refused(3, 0));
     set_up();
-    put_record(sheet, 1, 2, 19, 0);
-    expect("measure, kind 2", measure(10, 1, sheet, sizeof sheet, answer, sizeof answer) == MALFORMED_RECORD && refused(4, 1));
+    put_record(items, 1, 2, 19, 0);
+    expect("measure, kind 2", measure(10, 1, items, sizeof items, answer, sizeof answer) == MALFORMED_RECORD && refused(4, 1));
     set_up();
-    put_record(sheet, 1, 0, 19, 0);
-    expect("measure, new after new", measure(10, 1, sheet, sizeof sheet, answer, sizeof answer) == ADJACENT_NEW_RECORDS && refused(5, 1));
+    put_record(items, 1, 0, 19, 0);
+    expect("measure, new after new", measure(10, 1, items, sizeof items, answer, sizeof answer) == ADJACENT_NEW_RECORDS && refused(5, 1));
     set_up();
-    put_record(sheet, 2, 0, VERSION_MOST, 0);
-    expect("measure, sizes too long", measure(10, 1, sheet, sizeof sheet, answer, sizeof answer) == BAD_SIZES && refused(6, 2));
+    put_record(items, 2, 0, VERSION_MOST, 0);
+    expect("measure, sizes too long", measure(10, 1, items, sizeof items, answer, sizeof answer) == BAD_SIZES && refused(6, 2));
     set_up();
-    expect("measure, short answer area", measure(0, 0, sheet, 1, answer, ANSWER_BYTES - 1) == AREA_TOO_SHORT && filled(answer, 0, sizeof answer));
+    expect("measure, short answer area", measure(0, 0, items, 1, answer, ANSWER_BYTES - 1) == AREA_TOO_SHORT && filled(answer, 0, sizeof answer));
 }
 
 static void test_check(void)
 {
     set_up();
-    expect("check accepts", check(sheet, sizeof sheet, block, 10, store, 19, 2, answer, sizeof answer) == ACCEPTED && answered(0, 0, 0, 0, 0, 0, 0));
+    expect("check accepts", check(items, sizeof items, block, 10, store, 19, 2, answer, sizeof answer) == ACCEPTED && answered(0, 0, 0, 0, 0, 0, 0));
     set_up();
-    expect("check, store of 18", check(sheet, sizeof sheet, block, 10, store, 18, 2, answer, sizeof answer) == OUTSIDE_STORE && refused(7, 1));
+    expect("check, store of 18", check(items, sizeof items, block, 10, store, 18, 2, answer, sizeof answer) == OUTSIDE_STORE && refused(7, 1));
     set_up();
-    expect("check, block of 9", check(sheet, sizeof sheet, block, 9, store, 19, 2, answer, sizeof answer) == BAD_BLOCK_LENGTH && refused(10, 0));
+    expect("check, block of 9", check(items, sizeof items, block, 9, store, 19, 2, answer, sizeof answer) == BAD_BLOCK_LENGTH && refused(10, 0));
     set_up();
-    expect("check, k 3 of 3", check(sheet, sizeof sheet, block, 10, store, 19, 3, answer, sizeof answer) == NO_SUCH_RECORD && refused(11, 0));
+    expect("check, k 3 of 3", check(items, sizeof items, block, 10, store, 19, 3, answer, sizeof answer) == NO_SUCH_RECORD && refused(11, 0));
     set_up();
-    expect("check, short answer area", check(sheet, 1, block, 0, store, 0, 9, answer, 0) == AREA_TOO_SHORT && filled(answer, 0, sizeof answer));
+    expect("check, short answer area", check(items, 1, block, 0, store, 0, 9, answer, 0) == AREA_TOO_SHORT && filled(answer, 0, sizeof answer));
 }
 
 static void test_rebuild(void)
 {
     set_up();
-    expect("rebuild accepts", rebuild(sheet, sizeof sheet, block, 10, store, 19, area, AREA, answer, sizeof answer) == ACCEPTED
+    expect("rebuild accepts", rebuild(items, sizeof items, block, 10, store, 19, area, AREA, answer, sizeof answer) == ACCEPTED
         && answered(0, 0, 0, 0, 0, 0, 29) && memcmp(area, version, 29) == 0 && filled(area, 29, AREA));
     set_up();
-    expect("rebuild, area of 28", rebuild(sheet, sizeof sheet, block, 10, store, 19, area, 28, answer, sizeof answer) == AREA_TOO_SHORT && refused(9, 0));
+    expect("rebuild, area of 28", rebuild(items, sizeof items, block, 10, store, 19, area, 28, answer, sizeof answer) == AREA_TOO_SHORT && refused(9, 0));
     set_up();
-    expect("rebuild, short answer area", rebuild(sheet, sizeof sheet, block, 10, store, 19, area, AREA, answer, 31) == AREA_TOO_SHORT
+    expect("rebuild, short answer area", rebuild(items, sizeof items, block, 10, store, 19, area, AREA, answer, 31) == AREA_TOO_SHORT
         && filled(answer, 0, sizeof answer) && filled(area, 0, AREA));
 }
 
@@ -152,7 +152,7 @@ static uint32_t divide(uint32_t (*call)(uint32_t, uint32_t, const uint8_t *, siz
                                         uint8_t *, size_t, uint8_t *, size_t, uint8_t *, size_t, uint8_t *, size_t),
                        uint32_t e, uint32_t f, size_t list_length, size_t version_length, size_t store_length, size_t choice_length)
 {
-    return call(e, f, sheet, list_length, version, version_length, store, store_length, choice, choice_length, list_area, AREA,
+    return call(e, f, items, list_length, version, version_length, store, store_length, choice, choice_length, list_area, AREA,
                 block_area, AREA, answer, sizeof answer);
 }
 
@@ -161,37 +161,37 @@ static void test_partition(void)
     uint8_t fused[RECORD_BYTES];
     put_record(fused, 0, 0, 29, 0);
     set_up();
-    expect("partition accepts", divide(partition, 10, 1, sizeof sheet, 29, 19, AREA) == ACCEPTED && answered(0, 0, 39, 1, 29, 0, 0)
+    expect("partition accepts", divide(partition, 10, 1, sizeof items, 29, 19, AREA) == ACCEPTED && answered(0, 0, 39, 1, 29, 0, 0)
         && memcmp(choice, "\1\1\1", 3) == 0 && filled(choice, 3, AREA) && memcmp(list_area, fused, RECORD_BYTES) == 0
         && filled(list_area, RECORD_BYTES, AREA) && memcmp(block_area, version, 29) == 0 && filled(block_area, 29, AREA));
     set_up();
     expect("partition of no records", divide(partition, 10, 1, 0, 0, 0, 0) == ACCEPTED && answered(0, 0, 0, 0, 0, 0, 0) && filled(choice, 0, AREA)
         && filled(list_area, 0, AREA) && filled(block_area, 0, AREA));
     set_up();
-    expect("partition, the greatest price", divide(partition, 255, 65535, sizeof sheet, 29, 19, AREA) == ACCEPTED && answered(0, 0, 16711454, 1, 29, 0, 0));
+    expect("partition, the greatest price", divide(partition, 255, 65535, sizeof items, 29, 19, AREA) == ACCEPTED && answered(0, 0, 16711454, 1, 29, 0, 0));
     set_up();
-    expect("partition, F 0", divide(partition, 10, 0, sizeof sheet, 29, 19, AREA) == BAD_PRICE && refused(1, 0));
+    expect("partition, F 0", divide(partition, 10, 0, sizeof items, 29, 19, AREA) == BAD_PRICE && refused(1, 0));
     set_up();
-    expect("partition, choice area of 2", divide(partition, 10, 1, sizeof sheet, 29, 19, 2) == AREA_TOO_SHORT && refused(9, 0));
+    expect("partition, choice area of 2", divide(partition, 10, 1, sizeof items, 29, 19, 2) == AREA_TOO_SHORT && refused(9, 0));
     set_up();
     expect("partition, sizes end short", divide(partition, 10, 1, 2 * RECORD_BYTES, 29, 19, AREA) == BAD_SIZES && refused(6, 3 - 1));
     set_up();
-    expect("partition, sizes too long", divide(partition, 10, 1, sizeof sheet, 28, 19, AREA) == BAD_SIZES && refused(6, 2));
+    expect("partition, sizes too long", divide(partition, 10, 1, sizeof items, 28, 19, AREA) == BAD_SIZES && refused(6, 2));
     set_up();
     store[18] = 'B';
-    expect("partition, bytes differ", divide(partition, 10, 1, sizeof sheet, 29, 19, AREA) == MISMATCH && refused(8, 1));
+    expect("partition, bytes differ", divide(partition, 10, 1, sizeof items, 29, 19, AREA) == MISMATCH && refused(8, 1));
 }
 
 static void test_pass(void)
 {
     set_up();
-    expect("pass accepts", divide(pass, 10, 1, sizeof sheet, 29, 19, AREA) == ACCEPTED && answered(0, 0, 39, 1, 29, 2, 0)
+    expect("pass accepts", divide(pass, 10, 1, sizeof items, 29, 19, AREA) == ACCEPTED && answered(0, 0, 39, 1, 29, 2, 0)
         && memcmp(choice, "\1\1\1", 3) == 0 && filled(choice, 3, AREA) && filled(list_area, RECORD_BYTES, AREA)
         && memcmp(block_area, version, 29) == 0 && filled(block_area, 29, AREA));
     set_up();
     expect("pass of no records", divide(pass, 10, 1, 0, 0, 0, 0) == ACCEPTED && answered(0, 0, 0, 0, 0, 0, 0));
     set_up();
-    expect("pass, bytes differ", (store[0] = 'B', divide(pass, 10, 1, sizeof sheet, 29, 19, AREA)) == MISMATCH && refused(8, 1));
+    expect("pass, bytes differ", (store[0] = 'B', divide(pass, 10, 1, sizeof items, 29, 19, AREA)) == MISMATCH && refused(8, 1));
 }
 
 /* ---- The greatest sizes ---- */
@@ -225,9 +225,9 @@ static void test_greatest(void)
     expect("partition, a version of 16,777,217 bytes", partition(1, 1, list, list_length, bytes, VERSION_MOST + 1, bytes, VERSION_MOST, bits,
         RECORDS_MOST, out, list_length, rest, VERSION_MOST, answer, sizeof answer) == TOO_LONG && refused(2, 0));
     set_up();
-    expect("check, a store of 268,435,456 bytes", check(sheet, sizeof sheet, block, 10, huge, STORE_MOST, 0, answer, sizeof answer) == ACCEPTED);
+    expect("check, a store of 268,435,456 bytes", check(items, sizeof items, block, 10, huge, STORE_MOST, 0, answer, sizeof answer) == ACCEPTED);
     set_up();
-    expect("check, a store of 268,435,457 bytes", check(sheet, sizeof sheet, block, 10, huge, (size_t)STORE_MOST + 1, 0, answer, sizeof answer) == TOO_LONG
+    expect("check, a store of 268,435,457 bytes", check(items, sizeof items, block, 10, huge, (size_t)STORE_MOST + 1, 0, answer, sizeof answer) == TOO_LONG
         && refused(2, 0));
     free(list), free(out), free(bytes), free(rest), free(bits), free(huge);
 }

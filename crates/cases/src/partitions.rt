@@ -225,7 +225,7 @@ fn refused_zeros(name: &[u8], ask: Ask, zeros: &[u8], length: usize, number: u32
 }
 
 // One sheet, at P = 10 and in areas longer than it needs.
-fn sheet(
+fn worked(
     name: &[u8],
     list: &[u8],
     version: &[u8],
@@ -238,7 +238,7 @@ fn sheet(
 }
 
 fn sheet_a() {
-    sheet(
+    worked(
         b"sheet A",
         b"",
         b"",
@@ -250,7 +250,7 @@ fn sheet_a() {
 }
 
 fn sheet_b() {
-    sheet(
+    worked(
         b"sheet B",
         b"M1@0",
         b"A",
@@ -263,7 +263,7 @@ fn sheet_b() {
 
 fn sheet_c() {
     let version = b"01234ABCDEFGHIJKLMNOPQRS56789";
-    sheet(
+    worked(
         b"sheet C",
         b"N5 M19@0 N5",
         version,
@@ -276,7 +276,7 @@ fn sheet_c() {
 
 fn sheet_d() {
     let version = b"01234ABCDEFGHIJKLMNOPQRST56789";
-    sheet(
+    worked(
         b"sheet D",
         b"N5 M20@0 N5",
         version,
@@ -290,7 +290,7 @@ fn sheet_d() {
 fn sheet_e() {
     let list = b"N5 M19@20 M19@0 N5";
     let version = b"01234UVWXYZabcdefghijklmABCDEFGHIJKLMNOPQRS56789";
-    sheet(
+    worked(
         b"sheet E",
         list,
         version,
@@ -302,7 +302,7 @@ fn sheet_e() {
 }
 
 fn sheet_f() {
-    sheet(
+    worked(
         b"sheet F",
         b"N1 M9@0",
         b"0ABCDEFGHI",
@@ -314,7 +314,7 @@ fn sheet_f() {
 }
 
 fn sheet_g() {
-    sheet(
+    worked(
         b"sheet G",
         b"N1 M10@0",
         b"0ABCDEFGHIJ",
@@ -327,7 +327,7 @@ fn sheet_g() {
 
 fn sheet_h() {
     let version = b"IJKLEFGHABCD";
-    sheet(
+    worked(
         b"sheet H",
         b"M4@8 M4@4 M4@0",
         version,
@@ -340,7 +340,7 @@ fn sheet_h() {
 
 fn sheet_i() {
     let version = b"MNOPQRGHIJKLABCDEF";
-    sheet(
+    worked(
         b"sheet I",
         b"M6@12 M6@6 M6@0",
         version,
@@ -353,7 +353,7 @@ fn sheet_i() {
 
 fn sheet_j() {
     let version = b"IJKLMNOPQREFGHABCD";
-    sheet(
+    worked(
         b"sheet J",
         b"M10@8 M4@4 M4@0",
         version,

@@ -1,2 +1,2 @@
 pub mod Demanding
-pub mod SheetsHold
+pub mod WorkedHolds

@@ -107,7 +107,7 @@ fn flush(area: &mut [u8], out: usize, last: Open) -> usize
 }
 
 // The list of the choice, over the front of the area; gives its length in bytes.
-pub fn write_list(list: &[u8], choice: &[u8], area: &mut [u8]) -> usize
+fn write_list(list: &[u8], choice: &[u8], area: &mut [u8]) -> usize
     requires { ⌜ ListReady (now list) (now choice) (now area) ⌝ }
     ensures { λ r. ⌜ ListWritten (now (list .entry)) (now (choice .entry)) (now (area .entry)) (now (area .exit)) r ⌝ }
 {
@@ -126,7 +126,7 @@ pub fn write_list(list: &[u8], choice: &[u8], area: &mut [u8]) -> usize
 }
 
 // The stored block of the choice, over the front of the area; gives its length.
-pub fn write_block(list: &[u8], choice: &[u8], version: &[u8], block: &mut [u8]) -> usize
+fn write_block(list: &[u8], choice: &[u8], version: &[u8], block: &mut [u8]) -> usize
     requires { ⌜ BlockReady (now list) (now choice) (now version) (now block) ⌝ }
     ensures { λ r. ⌜ BlockWritten (now (list .entry)) (now (choice .entry)) (now (version .entry)) (now (block .entry)) (now (block .exit)) r ⌝ }
 {
