@@ -7,7 +7,7 @@ use watch::Values;
 fn measured(name: &[u8], e: u32, f: u32, list: &[u8], want: Values) {
     watch::say(b"measure ");
     watch::say(name);
-    let fine = watch::answer_is(price::measure(e, f, list), want);
+    let fine = watch::answer_is(measure::measure(e, f, list), want);
     watch::end_line(fine);
 }
 

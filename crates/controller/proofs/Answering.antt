@@ -8,7 +8,7 @@ use borrow.Author.Tests.{lt-ltb, le-ltb}
 use Rattle.format.specs.declared.Answer.{Answer}
 use Rattle.format.specs.declared.Ruling.{Ruling}
 use Rattle.choice.specs.Choice.{Bit}
-use Rattle.admit.specs.Admit.{answerFor, choiceFor, listFor, blockFor, Divided}
+use Rattle.writer.specs.Divide.{answerFor, choiceFor, listFor, blockFor, Divided}
 use Rattle.controller.specs.Layout.{toldOf, given, Answered, lentArea}
 use Rattle.controller.specs.Divides.{Divides}
 

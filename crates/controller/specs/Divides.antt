@@ -6,7 +6,8 @@ use mathlib.Core.List.{List}
 use Rattle.format.specs.declared.Ruling.{Ruling}
 use Rattle.price.specs.Price.{priceOf}
 use Rattle.choice.specs.Choice.{Bit}
-use Rattle.admit.specs.Admit.{divideRuling, answerFor, choiceFor, listFor, blockFor}
+use Rattle.writer.specs.Divide.{answerFor, choiceFor, listFor, blockFor}
+use Rattle.admit.specs.Admit.{divideRuling}
 use Rattle.least.specs.Partition.{leastOf}
 use Rattle.linear.specs.Linear.{passChoiceOf, passLooksOf}
 use Rattle.controller.specs.Layout.{Answered, lentArea}

@@ -4,7 +4,7 @@
 ghost use mathlib.Core.Path.{_≡_};
 ghost use Prim.Native.Nat.{_≤_};
 ghost use lib.ListN.{length};
-ghost use Rattle.price.specs.Price.{measured};
+ghost use Rattle.measure.specs.Measure.{measured};
 ghost use Rattle.rebuild.specs.Rebuild.{checked, rebuildAnswer, rebuildArea};
 ghost use Rattle.controller.specs.Layout.{toldOf, layout, given, Answered, lentArea};
 ghost use Rattle.controller.specs.Divides.{PartitionGiven, PassGiven};
@@ -111,7 +111,7 @@ pub extern "C" fn measure(e: u32, f: u32, list: &[u8], answer: &mut [u8]) -> u32
     if answer.len() < 32 {
         return 9;
     }
-    give(price::measure(e, f, list), answer)
+    give(measure::measure(e, f, list), answer)
 }
 
 // Rebuild.

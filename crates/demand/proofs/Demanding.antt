@@ -22,16 +22,17 @@ use Rattle.price.specs.Price.{priceOf, cost}
 use Rattle.area.specs.Area.{over}
 use Rattle.choice.specs.Choice.{Bit, bitBytes, listOf}
 use Rattle.choice.proofs.Least.{least-is-least, least-fits}
-use Rattle.admit.specs.Admit.{admitRuling, divideRuling, figures, Divided}
+use Rattle.writer.specs.Divide.{figures, Divided}
+use Rattle.admit.specs.Admit.{admitRuling, divideRuling}
 use Rattle.admit.proofs.Admitting.{Sound, sound-of-fine, fine-of-longer, store-most}
 use Rattle.rebuild.specs.Rebuild.{rebuildRuling, lengthOnly, Rebuilt}
 use Rattle.rebuild.proofs.Accepting.{inputs-written, rebuild-fine}
 use Rattle.least.specs.Partition.{leastOf, Partitioned}
-use Rattle.least.proofs.Theorems.{well-formed-written, count-written, readable-written, rebuilt-written, admitted-again, least-again, list-again}
 use Rattle.pass.specs.Pass.{passChoice, passLooks}
 use Rattle.pass.proofs.Theorems.{pass-holds}
 use Rattle.linear.specs.Linear.{PassedOver}
 use Rattle.demand.specs.Demand.{Areas, Demand, shorter, figuresIn, demandRuling}
+use Rattle.demand.proofs.Written.{well-formed-written, count-written, readable-written, rebuilt-written, admitted-again, least-again, list-again}
 
 shorter-left : (a b : ℕ) → shorter a b ≤ a
 shorter-left a b = go (leb a b) refl

@@ -16,7 +16,8 @@ use Rattle.format.specs.Meaning.{blockOf}
 use Rattle.price.specs.Price.{priceOf, cost}
 use Rattle.area.specs.Area.{over}
 use Rattle.choice.specs.Choice.{Bit, bitBytes, listOf, IsLeast, keepAll}
-use Rattle.admit.specs.Admit.{admitRuling, figures}
+use Rattle.writer.specs.Divide.{figures}
+use Rattle.admit.specs.Admit.{admitRuling}
 use Rattle.rebuild.specs.Rebuild.{lengthOnly}
 use Rattle.pass.specs.Pass.{passChoice, passLooks}
 use Rattle.demand.specs.declared.Answers.{Answers}

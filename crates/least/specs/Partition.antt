@@ -6,7 +6,8 @@ use Rattle.format.specs.declared.Answer.{Answer}
 use Rattle.format.specs.Record.{recordsOf}
 use Rattle.price.specs.Price.{priceOf}
 use Rattle.choice.specs.Choice.{Bit, least}
-use Rattle.admit.specs.Admit.{divideRuling, Divided}
+use Rattle.writer.specs.Divide.{Divided}
+use Rattle.admit.specs.Admit.{divideRuling}
 
 -- the least choice for a list of bytes
 abbrev pub leastOf : ℕ → ℕ → List ℕ → List Bit

@@ -6,7 +6,8 @@ use Rattle.format.specs.declared.Answer.{Answer}
 use Rattle.format.specs.Record.{recordsOf}
 use Rattle.price.specs.Price.{priceOf}
 use Rattle.choice.specs.Choice.{Bit}
-use Rattle.admit.specs.Admit.{divideRuling, Divided}
+use Rattle.writer.specs.Divide.{Divided}
+use Rattle.admit.specs.Admit.{divideRuling}
 use Rattle.pass.specs.Pass.{passChoice, passLooks}
 
 -- the choice of the machine's last list, for a list of bytes, and the looks

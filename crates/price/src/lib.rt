@@ -1,15 +1,9 @@
-// The price of an index entry, the cost of a list, and the call measure.
+// The price of an index entry, and the cost of a list.
 //
 // Index bytes and disk bytes are two units: `worth` alone brings them together.
 ghost use mathlib.Core.Path.{_≡_};
 ghost use Prim.Native.Nat.{_+_, _*_, _≤_, _<_};
-ghost use Rattle.price.specs.Price.{priced, measured};
-use format::Answer;
-use format::Fault;
-use format::Figures;
-use walk::Scope;
-use walk::Totals;
-use walk::Walked;
+ghost use Rattle.price.specs.Price.{priced};
 
 // Bytes of the index.
 pub struct IndexBytes(pub u64);
@@ -56,30 +50,4 @@ pub fn cost_of(p: DiskBytes, entries: u32, stored: u32) -> DiskBytes
     ensures { λ r. ⌜ r .0 ≡ p .0 * entries + stored ⌝ }
 {
     DiskBytes(p.0 * (entries as u64) + (stored as u64))
-}
-
-// Measure: entries, stored bytes, whole length and cost of a list.
-pub fn measure(e: u32, f: u32, list: &[u8]) -> Answer
-    ensures { λ r. ⌜ r ≡ measured e f (now (list .entry)) ⌝ }
-{
-    let priced = price_of(e, f);
-    let Priced::At(p) = priced else {
-        return format::refused(Fault::Price);
-    };
-    if !format::list_fits(list) {
-        return format::refused(Fault::ListLength);
-    }
-    let none = &list[0..0];
-    let walked = walk::walk(list, none, none, Scope::Sizes);
-    let Walked::Through(t) = walked else {
-        return Answer::Refused(walk::refusal_of(walked));
-    };
-    let cost = cost_of(p, t.entries, t.stored);
-    Answer::Accepted(Figures {
-        cost: cost.0,
-        entries: t.entries,
-        stored: t.stored,
-        looks: 0,
-        whole: t.whole,
-    })
 }

@@ -22,35 +22,40 @@ decimalIn (suc k) n = cond (ltb n 10) ((48 + n) ∷ []) (decimalIn k (n / 10) ++
 abbrev pub decimal : ℕ → List ℕ
 decimal n = decimalIn 20 n
 
--- `N size` or `M size address`, and a new line
+-- a word and a number after it; the same at the end of a line
+abbrev pub field : List ℕ → ℕ → List ℕ
+field w n = w ++ decimal n
+
+abbrev pub lastField : List ℕ → ℕ → List ℕ
+lastField w n = field w n ++ (10 ∷ [])
+
+-- `N size` or `M size address`
 abbrev pub recordText : Record → List ℕ
-recordText (New s) = (78 ∷ 32 ∷ []) ++ decimal s ++ (10 ∷ [])
-recordText (Match s a) = (77 ∷ 32 ∷ []) ++ decimal s ++ ((32 ∷ []) ++ decimal a) ++ (10 ∷ [])
+recordText (New s) = lastField (78 ∷ 32 ∷ []) s
+recordText (Match s a) = field (77 ∷ 32 ∷ []) s ++ lastField (32 ∷ []) a
 
 abbrev pub recordsText : List Record → List ℕ
 recordsText [] = []
 recordsText (r ∷ l) = recordText r ++ recordsText l
 
--- `cost 39 entries 1 bytes 29 pass 39 steps 2`: partition's figures x, and the pass's y
-abbrev pub figuresText : Figures → Figures → List ℕ
-figuresText x y =
-    (99 ∷ 111 ∷ 115 ∷ 116 ∷ 32 ∷ []) ++ decimal (x .cost)
-    ++ ((32 ∷ 101 ∷ 110 ∷ 116 ∷ 114 ∷ 105 ∷ 101 ∷ 115 ∷ 32 ∷ []) ++ decimal (x .entries))
-    ++ ((32 ∷ 98 ∷ 121 ∷ 116 ∷ 101 ∷ 115 ∷ 32 ∷ []) ++ decimal (x .stored))
-    ++ ((32 ∷ 112 ∷ 97 ∷ 115 ∷ 115 ∷ 32 ∷ []) ++ decimal (y .cost))
-    ++ ((32 ∷ 115 ∷ 116 ∷ 101 ∷ 112 ∷ 115 ∷ 32 ∷ []) ++ decimal (y .looks))
-    ++ (10 ∷ [])
+-- partition's part of the line of figures, `cost 39 entries 1 bytes 29`
+abbrev pub leastText : Figures → List ℕ
+leastText x =
+    field (99 ∷ 111 ∷ 115 ∷ 116 ∷ 32 ∷ []) (x .cost)
+    ++ field (32 ∷ 101 ∷ 110 ∷ 116 ∷ 114 ∷ 105 ∷ 101 ∷ 115 ∷ 32 ∷ []) (x .entries)
+    ++ field (32 ∷ 98 ∷ 121 ∷ 116 ∷ 101 ∷ 115 ∷ 32 ∷ []) (x .stored)
 
--- each written record, then the line of figures
+-- the pass's part, ` pass 39 steps 2`
+abbrev pub passText : Figures → List ℕ
+passText y = field (32 ∷ 112 ∷ 97 ∷ 115 ∷ 115 ∷ 32 ∷ []) (y .cost) ++ lastField (32 ∷ 115 ∷ 116 ∷ 101 ∷ 112 ∷ 115 ∷ 32 ∷ []) (y .looks)
+
+-- each written record, then one line with partition's figures x and the pass's y
 abbrev pub reportText : List Record → Figures → Figures → List ℕ
-reportText l x y = recordsText l ++ figuresText x y
+reportText l x y = recordsText l ++ (leastText x ++ passText y)
 
 -- `refused 7 at 1`
 abbrev pub refusalText : Refusal → List ℕ
-refusalText r =
-    (114 ∷ 101 ∷ 102 ∷ 117 ∷ 115 ∷ 101 ∷ 100 ∷ 32 ∷ []) ++ decimal (number (r .fault))
-    ++ ((32 ∷ 97 ∷ 116 ∷ 32 ∷ []) ++ decimal (r .place))
-    ++ (10 ∷ [])
+refusalText r = field (114 ∷ 101 ∷ 102 ∷ 117 ∷ 115 ∷ 101 ∷ 100 ∷ 32 ∷ []) (number (r .fault)) ++ lastField (32 ∷ 97 ∷ 116 ∷ 32 ∷ []) (r .place)
 
 -- `bad file price`
 abbrev pub badFileText : List ℕ → List ℕ

@@ -1,11 +1,10 @@
 // The text of the program `partition`, made in a lent area: the written records, one line of figures; or a refusal; or the name of a bad file.
 ghost use mathlib.Core.Path.{_≡_};
-ghost use mathlib.Core.List.{_++_};
 ghost use Prim.Native.Nat.{_+_, _*_, _/_, _≤_, _<_};
 ghost use lib.ListN.{length};
 ghost use Rattle.format.specs.Record.{recordsOf};
 ghost use Rattle.area.specs.Area.{pasted};
-ghost use Rattle.report.specs.Text.{decimal, recordText, recordsText, figuresText, reportText, refusalText, badFileText, Written};
+ghost use Rattle.report.specs.Text.{decimal, field, lastField, recordText, recordsText, leastText, passText, reportText, refusalText, badFileText, Written};
 use format::Figures;
 use format::Record;
 use format::Refusal;
@@ -39,11 +38,31 @@ fn put_number(area: &mut [u8], at: usize, n: u64) -> usize
 // A word and a number after it.
 fn put_field(area: &mut [u8], at: usize, word: &[u8], n: u64) -> usize
     requires { ⌜ at + length (now word) + 20 ≤ length (now area) ⌝ }
-    ensures { λ r. ⌜ Written at (now (word .entry) ++ decimal n) (now (area .entry)) r (now (area .exit)) ⌝ }
+    ensures { λ r. ⌜ Written at (field (now (word .entry)) n) (now (area .entry)) r (now (area .exit)) ⌝ }
     ensures { λ r. ⌜ r ≤ at + length (now (word .entry)) + 20 ⌝ }
 {
     let next = put_bytes(area, at, word);
     put_number(area, next, n)
+}
+
+// The same at the end of a line.
+fn put_last(area: &mut [u8], at: usize, word: &[u8], n: u32) -> usize
+    requires { ⌜ at + length (now word) + 21 ≤ length (now area) ⌝ }
+    ensures { λ r. ⌜ Written at (lastField (now (word .entry)) n) (now (area .entry)) r (now (area .exit)) ⌝ }
+    ensures { λ r. ⌜ r ≤ at + length (now (word .entry)) + 21 ⌝ }
+{
+    let next = put_field(area, at, word, wide(n));
+    put_bytes(area, next, b"\n")
+}
+
+// The line of a match.
+fn put_match(area: &mut [u8], at: usize, size: u32, address: u32) -> usize
+    requires { ⌜ at + 44 ≤ length (now area) ⌝ }
+    ensures { λ r. ⌜ Written at (recordText (Record.Match size address)) (now (area .entry)) r (now (area .exit)) ⌝ }
+    ensures { λ r. ⌜ r ≤ at + 44 ⌝ }
+{
+    let next = put_field(area, at, b"M ", wide(size));
+    put_last(area, next, b" ", address)
 }
 
 // The line of a record.
@@ -53,15 +72,8 @@ fn put_record(area: &mut [u8], at: usize, item: Record) -> usize
     ensures { λ r. ⌜ r ≤ at + 44 ⌝ }
 {
     match item {
-        Record::New(size) => {
-            let next = put_field(area, at, b"N ", wide(size));
-            put_bytes(area, next, b"\n")
-        }
-        Record::Match(size, address) => {
-            let next = put_field(area, at, b"M ", wide(size));
-            let last = put_field(area, next, b" ", wide(address));
-            put_bytes(area, last, b"\n")
-        }
+        Record::New(size) => put_last(area, at, b"N ", size),
+        Record::Match(size, address) => put_match(area, at, size, address),
     }
 }
 
@@ -81,26 +93,34 @@ fn put_records(area: &mut [u8], list: &[u8]) -> usize
     at
 }
 
-// The line of figures: partition's x and the pass's y.
-fn put_figures(area: &mut [u8], at: usize, x: Figures, y: Figures) -> usize
-    requires { ⌜ at + 160 ≤ length (now area) ⌝ }
-    ensures { λ r. ⌜ Written at (figuresText x y) (now (area .entry)) r (now (area .exit)) ⌝ }
+// Partition's part of the line of figures.
+fn put_least(area: &mut [u8], at: usize, x: Figures) -> usize
+    requires { ⌜ at + 81 ≤ length (now area) ⌝ }
+    ensures { λ r. ⌜ Written at (leastText x) (now (area .entry)) r (now (area .exit)) ⌝ }
+    ensures { λ r. ⌜ r ≤ at + 81 ⌝ }
 {
     let a = put_field(area, at, b"cost ", x.cost);
     let b = put_field(area, a, b" entries ", wide(x.entries));
-    let c = put_field(area, b, b" bytes ", wide(x.stored));
-    let d = put_field(area, c, b" pass ", y.cost);
-    let e = put_field(area, d, b" steps ", wide(y.looks));
-    put_bytes(area, e, b"\n")
+    put_field(area, b, b" bytes ", wide(x.stored))
 }
 
-// Each written record, then the figures; gives the length of the text.
+// The pass's part, which ends the line.
+fn put_pass(area: &mut [u8], at: usize, y: Figures) -> usize
+    requires { ⌜ at + 54 ≤ length (now area) ⌝ }
+    ensures { λ r. ⌜ Written at (passText y) (now (area .entry)) r (now (area .exit)) ⌝ }
+{
+    let next = put_field(area, at, b" pass ", y.cost);
+    put_last(area, next, b" steps ", y.looks)
+}
+
+// Each written record, then the line of figures; gives the length of the text.
 pub fn report(area: &mut [u8], list: &[u8], x: Figures, y: Figures) -> usize
     requires { ⌜ 44 * (length (now list) / 12) + 160 ≤ length (now area) ⌝ }
     ensures { λ r. ⌜ Written 0 (reportText (recordsOf (now (list .entry))) x y) (now (area .entry)) r (now (area .exit)) ⌝ }
 {
     let at = put_records(area, list);
-    put_figures(area, at, x, y)
+    let next = put_least(area, at, x);
+    put_pass(area, next, y)
 }
 
 // A refusal; gives the length of the text.
@@ -109,9 +129,8 @@ pub fn refusal(area: &mut [u8], r: Refusal) -> usize
     ensures { λ n. ⌜ Written 0 (refusalText r) (now (area .entry)) n (now (area .exit)) ⌝ }
 {
     let fault = r.fault;
-    let a = put_field(area, 0, b"refused ", wide(format::number_of(fault)));
-    let b = put_field(area, a, b" at ", wide(r.place));
-    put_bytes(area, b, b"\n")
+    let next = put_field(area, 0, b"refused ", wide(format::number_of(fault)));
+    put_last(area, next, b" at ", r.place)
 }
 
 // The name of a bad file; gives the length of the text.

@@ -9,7 +9,7 @@ use Rattle.price.proofs.Bounds.{price-most}
 use Rattle.choice.proofs.Least.{least-fits}
 use Rattle.admit.specs.Admit.{divideRuling, refusalIn}
 use Rattle.admit.proofs.Admitting.{fine-of-at, stop-of-stopped, sound-of-fine}
-use Rattle.admit.proofs.Dividing.{divided-refused, writable, divided}
+use Rattle.writer.proofs.Dividing.{divided-refused, writable, divided}
 use Rattle.least.specs.Partition.{leastOf}
 use borrow.Author.Needs.{needs}
 use Rattle.least.proofs.partition.Statement.{statement}
@@ -50,7 +50,7 @@ write-requires c κs =
     let g = c .before .before .before .before .before .before .before .before .before .before .before .before .before .before .before .before .before .args in
     let told = fine-of-at (divideRuling (g .e) (g .f) (g .list .now) (g .version .now) (g .store .now) (g .choice .now) (g .area .now) (g .block .now)) (priceOf (g .e) (g .f)) (c .before .before .before .before .before .before .before .before .admitted .given .0 .0) (sym (c .before .before .before .before .before .before .before .before .before .before .admit .ensures) ∙ c .before .before .before .before .before .before .before .before .admitted .given .1) in
     let sound = sound-of-fine (g .e) (g .f) (g .list .now) (g .version .now) (g .store .now) (length (g .choice .now)) (length (g .area .now)) (length (g .block .now)) (told .0) in
-    writable (g .e) (g .f) (g .list .now) (g .version .now) (g .store .now) (g .choice .now) (g .area .now) (g .block .now) sound _ (search needs)
+    writable (g .list .now) (g .version .now) (g .choice .now) (g .area .now) (g .block .now) (sound .counted .list-most) (sound .version-most) (sound .whole-is) (sound .in-choice) (sound .in-area) (sound .in-block) _ (search needs)
 
 same-length : tie.Need-same-length
 same-length c = search needs
@@ -68,7 +68,7 @@ returns-2 c =
     let sound = sound-of-fine (g .e) (g .f) (g .list .now) (g .version .now) (g .store .now) (length (g .choice .now)) (length (g .area .now)) (length (g .block .now)) (told .0) in
     let p = priceOf (g .e) (g .f) in
     let least-in = rw (told .1) at (c .before .before .before .before .before .before .before .before .before .before .least-choice .ensures) in
-    divided (g .e) (g .f) (g .list .now) (g .version .now) (g .store .now) (g .choice .now) (g .area .now) (g .block .now) sound (divideRuling (g .e) (g .f) (g .list .now) (g .version .now) (g .store .now) (g .choice .now) (g .area .now) (g .block .now)) (told .0) p (leastOf (g .e) (g .f) (g .list .now)) (least-fits p (recordsOf (g .list .now))) _ _ _ (c .before .before .before .before .write .result) (least-in .area) (c .before .before .before .before .write .ensures) (c .before .before .before .before .before .before .before .before .before .before .least-choice .result) 0 (least-in .cost-is)
+    divided (g .list .now) (g .version .now) (g .choice .now) (g .area .now) (g .block .now) (divideRuling (g .e) (g .f) (g .list .now) (g .version .now) (g .store .now) (g .choice .now) (g .area .now) (g .block .now)) (told .0) p (leastOf (g .e) (g .f) (g .list .now)) (least-fits p (recordsOf (g .list .now))) _ _ _ (c .before .before .before .before .write .result) (least-in .area) (c .before .before .before .before .write .ensures) (c .before .before .before .before .before .before .before .before .before .before .least-choice .result) 0 (least-in .cost-is)
 
 pub partition-spec : {M : Type 1} → statement M
 partition-spec =

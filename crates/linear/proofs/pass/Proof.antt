@@ -10,7 +10,7 @@ use Rattle.price.proofs.Bounds.{price-most}
 use Rattle.choice.proofs.Lists.{length-list}
 use Rattle.admit.specs.Admit.{divideRuling, refusalIn}
 use Rattle.admit.proofs.Admitting.{fine-of-at, stop-of-stopped, sound-of-fine}
-use Rattle.admit.proofs.Dividing.{divided-refused, writable, entries-chosen, stored-chosen, divided}
+use Rattle.writer.proofs.Dividing.{divided-refused, writable, entries-chosen, stored-chosen, divided}
 use Rattle.pass.proofs.Theorems.{pass-holds}
 use Rattle.linear.specs.Linear.{passChoiceOf, passLooksOf}
 use borrow.Author.Needs.{needs}
@@ -54,7 +54,7 @@ write-requires c κs =
     let g = c .before .before .before .before .before .before .before .before .before .before .before .before .before .before .before .before .before .args in
     let told = fine-of-at (divideRuling (g .e) (g .f) (g .list .now) (g .version .now) (g .store .now) (g .choice .now) (g .area .now) (g .block .now)) (priceOf (g .e) (g .f)) (c .before .before .before .before .before .before .before .before .admitted .given .0 .0) (sym (c .before .before .before .before .before .before .before .before .before .before .admit .ensures) ∙ c .before .before .before .before .before .before .before .before .admitted .given .1) in
     let sound = sound-of-fine (g .e) (g .f) (g .list .now) (g .version .now) (g .store .now) (length (g .choice .now)) (length (g .area .now)) (length (g .block .now)) (told .0) in
-    writable (g .e) (g .f) (g .list .now) (g .version .now) (g .store .now) (g .choice .now) (g .area .now) (g .block .now) sound _ (search needs)
+    writable (g .list .now) (g .version .now) (g .choice .now) (g .area .now) (g .block .now) (sound .counted .list-most) (sound .version-most) (sound .whole-is) (sound .in-choice) (sound .in-area) (sound .in-block) _ (search needs)
 
 cost-of-requires : tie.Need-cost-of-requires
 cost-of-requires c κs =
@@ -65,7 +65,7 @@ cost-of-requires c κs =
     let holds = pass-holds p (recordsOf (g .list .now)) (sound .well-formed .sized) (sound .well-formed .apart) in
     let passed = rw (told .1) at (c .before .before .before .before .before .before .before .before .before .before .pass-choice .ensures) in (
       omega (arith, told .1, price-most (g .e) (g .f) (sound .price-fits)),
-      omega (arith, entries-chosen (g .e) (g .f) (g .list .now) (g .version .now) (g .store .now) (g .choice .now) (g .area .now) (g .block .now) sound (divideRuling (g .e) (g .f) (g .list .now) (g .version .now) (g .store .now) (g .choice .now) (g .area .now) (g .block .now)) (told .0) p (passChoiceOf (g .e) (g .f) (g .list .now)) (holds .choice) _ _ _ (c .before .before .before .before .write .result) (passed .1) (c .before .before .before .before .write .ensures), length-list (recordsOf (g .list .now)) (passChoiceOf (g .e) (g .f) (g .list .now)), sound .counted .count-most),
+      omega (arith, entries-chosen (g .list .now) (g .version .now) (g .choice .now) (g .area .now) (g .block .now) (divideRuling (g .e) (g .f) (g .list .now) (g .version .now) (g .store .now) (g .choice .now) (g .area .now) (g .block .now)) (told .0) p (passChoiceOf (g .e) (g .f) (g .list .now)) (holds .choice) _ _ _ (c .before .before .before .before .write .result) (passed .1) (c .before .before .before .before .write .ensures), length-list (recordsOf (g .list .now)) (passChoiceOf (g .e) (g .f) (g .list .now)), sound .counted .count-most),
     )
 
 same-length : tie.Need-same-length
@@ -85,8 +85,8 @@ returns-2 c =
     let p = priceOf (g .e) (g .f) in
     let holds = pass-holds p (recordsOf (g .list .now)) (sound .well-formed .sized) (sound .well-formed .apart) in
     let passed = rw (told .1) at (c .before .before .before .before .before .before .before .before .before .before .before .pass-choice .ensures) in
-    let cost-is : c .cost-of .result .0 ≡ cost p (listOf (recordsOf (g .list .now)) (passChoiceOf (g .e) (g .f) (g .list .now))) = c .cost-of .ensures ∙ rw (told .1, entries-chosen (g .e) (g .f) (g .list .now) (g .version .now) (g .store .now) (g .choice .now) (g .area .now) (g .block .now) sound (divideRuling (g .e) (g .f) (g .list .now) (g .version .now) (g .store .now) (g .choice .now) (g .area .now) (g .block .now)) (told .0) p (passChoiceOf (g .e) (g .f) (g .list .now)) (holds .choice) _ _ _ (c .before .before .before .before .before .write .result) (passed .1) (c .before .before .before .before .before .write .ensures), stored-chosen (g .e) (g .f) (g .list .now) (g .version .now) (g .store .now) (g .choice .now) (g .area .now) (g .block .now) sound (divideRuling (g .e) (g .f) (g .list .now) (g .version .now) (g .store .now) (g .choice .now) (g .area .now) (g .block .now)) (told .0) p (passChoiceOf (g .e) (g .f) (g .list .now)) (holds .choice) _ _ _ (c .before .before .before .before .before .write .result) (passed .1) (c .before .before .before .before .before .write .ensures)) in
-    rw (passed .0) (divided (g .e) (g .f) (g .list .now) (g .version .now) (g .store .now) (g .choice .now) (g .area .now) (g .block .now) sound (divideRuling (g .e) (g .f) (g .list .now) (g .version .now) (g .store .now) (g .choice .now) (g .area .now) (g .block .now)) (told .0) p (passChoiceOf (g .e) (g .f) (g .list .now)) (holds .choice) _ _ _ (c .before .before .before .before .before .write .result) (passed .1) (c .before .before .before .before .before .write .ensures) (c .cost-of .result .0) (passLooksOf (g .e) (g .f) (g .list .now)) cost-is)
+    let cost-is : c .cost-of .result .0 ≡ cost p (listOf (recordsOf (g .list .now)) (passChoiceOf (g .e) (g .f) (g .list .now))) = c .cost-of .ensures ∙ rw (told .1, entries-chosen (g .list .now) (g .version .now) (g .choice .now) (g .area .now) (g .block .now) (divideRuling (g .e) (g .f) (g .list .now) (g .version .now) (g .store .now) (g .choice .now) (g .area .now) (g .block .now)) (told .0) p (passChoiceOf (g .e) (g .f) (g .list .now)) (holds .choice) _ _ _ (c .before .before .before .before .before .write .result) (passed .1) (c .before .before .before .before .before .write .ensures), stored-chosen (g .list .now) (g .version .now) (g .choice .now) (g .area .now) (g .block .now) (divideRuling (g .e) (g .f) (g .list .now) (g .version .now) (g .store .now) (g .choice .now) (g .area .now) (g .block .now)) (told .0) p (passChoiceOf (g .e) (g .f) (g .list .now)) (holds .choice) _ _ _ (c .before .before .before .before .before .write .result) (passed .1) (c .before .before .before .before .before .write .ensures)) in
+    rw (passed .0) (divided (g .list .now) (g .version .now) (g .choice .now) (g .area .now) (g .block .now) (divideRuling (g .e) (g .f) (g .list .now) (g .version .now) (g .store .now) (g .choice .now) (g .area .now) (g .block .now)) (told .0) p (passChoiceOf (g .e) (g .f) (g .list .now)) (holds .choice) _ _ _ (c .before .before .before .before .before .write .result) (passed .1) (c .before .before .before .before .before .write .ensures) (c .cost-of .result .0) (passLooksOf (g .e) (g .f) (g .list .now)) cost-is)
 
 pub pass-spec : {M : Type 1} → statement M
 pass-spec =

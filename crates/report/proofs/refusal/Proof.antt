@@ -1,4 +1,4 @@
--- `report::refusal` meets its contract. Assumes nothing.
+-- `report::refusal` meets its contract: the number, then the place. Assumes nothing.
 use native.Mathlib.Omega.{arith}
 use mathlib.Core.Path.{sym, _∙_}
 use Rattle.report.proofs.Composing.{written-append}
@@ -18,26 +18,17 @@ wide-requires c κs = search needs
 put-field-requires : tie.Need-put-field-requires
 put-field-requires c κs = search needs
 
-slice-aggregate-put-field-2 : tie.Need-slice-aggregate-put-field-2
-slice-aggregate-put-field-2 c = search needs
+slice-aggregate-put-last : tie.Need-slice-aggregate-put-last
+slice-aggregate-put-last c = search needs
 
-wide-requires-2 : tie.Need-wide-requires-2
-wide-requires-2 c κs = search needs
-
-put-field-requires-2 : tie.Need-put-field-requires-2
-put-field-requires-2 c κs = search needs
-
-slice-aggregate-put-bytes : tie.Need-slice-aggregate-put-bytes
-slice-aggregate-put-bytes c = search needs
-
-put-bytes-requires : tie.Need-put-bytes-requires
-put-bytes-requires c κs = search needs
+put-last-requires : tie.Need-put-last-requires
+put-last-requires c κs = search needs
 
 same-length : tie.Need-same-length
 same-length c = search needs
 
 returns : tie.Need-returns
-returns c = rw (← c .before .before .before .before .before .before .before .before .before .before .before .before .before .before .before .number-of .ensures, ← c .before .before .before .before .before .before .before .before .before .before .before .before .before .before .wide .ensures, ← c .before .before .before .before .before .before .before .before .wide2 .ensures) (written-append (omega arith) (written-append (omega arith) (c .before .before .before .before .before .before .before .before .before .before .before .before .before .put-field .ensures .0) (c .before .before .before .before .before .before .before .put-field2 .ensures .0)) (c .before .before .put-bytes .ensures))
+returns c = rw (← c .before .before .before .before .before .before .before .before .before .number-of .ensures, ← c .before .before .before .before .before .before .before .before .wide .ensures) (written-append (omega arith) (c .before .before .before .before .before .before .before .put-field .ensures .0) (c .before .before .put-last .ensures .0))
 
 pub refusal-spec : {M : Type 1} → statement M
 refusal-spec =
@@ -47,10 +38,7 @@ refusal-spec =
     number-of-requires
     wide-requires
     put-field-requires
-    slice-aggregate-put-field-2
-    wide-requires-2
-    put-field-requires-2
-    slice-aggregate-put-bytes
-    put-bytes-requires
+    slice-aggregate-put-last
+    put-last-requires
     same-length
     returns)

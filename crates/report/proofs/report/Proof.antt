@@ -8,14 +8,19 @@ use Rattle.report.proofs.report.Tie as tie
 put-records-requires : tie.Need-put-records-requires
 put-records-requires c κs = search needs
 
-put-figures-requires : tie.Need-put-figures-requires
-put-figures-requires c κs = search needs
+put-least-requires : tie.Need-put-least-requires
+put-least-requires c κs = search needs
+
+put-pass-requires : tie.Need-put-pass-requires
+put-pass-requires c κs = search needs
 
 same-length : tie.Need-same-length
 same-length c = search needs
 
 returns : tie.Need-returns
-returns c = written-append (omega arith) (c .before .before .before .before .before .before .put-records .ensures .0) (c .before .before .put-figures .ensures)
+returns c = written-append (omega arith) (c .before .before .before .before .before .before .before .before .before .before .put-records .ensures .0) (written-append (omega arith) (c .before .before .before .before .before .before .put-least .ensures .0) (c .before .before .put-pass .ensures))
 
 pub report-spec : {M : Type 1} → statement M
-report-spec = tie.close (tie.spec put-records-requires put-figures-requires same-length returns)
+report-spec =
+    tie.close
+    (tie.spec put-records-requires put-least-requires put-pass-requires same-length returns)

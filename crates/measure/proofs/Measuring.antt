@@ -12,7 +12,8 @@ use Rattle.format.specs.Refusal.{refuse}
 use Rattle.format.specs.Record.{listFits, recordsOf}
 use Rattle.walk.specs.declared.Scope.the-variants as scope
 use Rattle.walk.specs.Checks.{checks, walkRuling}
-use Rattle.price.specs.Price.{priceFits, priceOf, measures, measured}
+use Rattle.price.specs.Price.{priceFits, priceOf}
+use Rattle.measure.specs.Measure.{measures, measured}
 
 module _ (e f : ℕ) (list : List ℕ) where
   pub measured-price : priceFits e f ≡ false → measured e f list ≡ Refused (refuse Price 0)

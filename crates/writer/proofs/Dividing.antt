@@ -1,6 +1,6 @@
--- From admitted inputs, a choice in its area and what was written of it, to the answer and the areas of the call.
+-- From a choice in its area and what was written of it to the answer and the areas of the call.
 -- Assumes nothing.
-use Prim.Native.Nat.{ℕ, _/_}
+use Prim.Native.Nat.{ℕ, _/_, _≤_}
 use native.Mathlib.Omega.{arith}
 use mathlib.Core.Path.{_≡_, _∙_, ap}
 use mathlib.Core.List.{List}
@@ -11,33 +11,27 @@ use Rattle.format.specs.declared.Ruling.the-variants.{Fine, Stop}
 use Rattle.format.specs.declared.Refusal.{Refusal}
 use Rattle.format.specs.declared.Answer.{Answer}
 use Rattle.format.specs.declared.Answer.the-variants.{Accepted, Refused}
+use Rattle.format.specs.Limits.{listMost, versionMost}
 use Rattle.format.specs.Record.{recordsOf, encode}
-use Rattle.format.specs.Meaning.{stored, blockOf}
+use Rattle.format.specs.Meaning.{whole, stored, blockOf}
 use Rattle.format.proofs.Rows.{length-recordsOf}
 use Rattle.price.specs.Price.{cost}
 use Rattle.area.specs.Area.{over}
 use Rattle.choice.specs.Choice.{Bit, bitBytes, bitsOf, IsChoice, listOf}
 use Rattle.choice.proofs.Lists.{length-choice, bits-over}
 use Rattle.writer.specs.declared.Wrote.{Wrote}
 use Rattle.writer.specs.Write.{listIn, Writable, Written}
-use Rattle.admit.specs.Admit.{Divided}
-use Rattle.admit.proofs.Admitting.{Sound}
+use Rattle.writer.specs.Divide.{Divided}
 
 pub divided-refused : (q : Ruling) (x : Refusal) (p : ℕ) (list v choice area block : List ℕ) (c : List Bit) (looks : ℕ) (r : Answer) → q ≡ Stop x → r ≡ Refused x
     → Divided q p list v choice area block c looks r choice area block
 divided-refused q x p list v choice area block c looks r e f = record { answered = rw e f; choice-after = rw e; area-after = rw e; block-after = rw e }
 
-module _ (e f : ℕ) (list v st choice area block : List ℕ) (s : Sound e f list v st (length choice) (length area) (length block)) where
-  pub writable : (choice′ : List ℕ) → length choice′ ≡ length choice → Writable list choice′ v area block
-  writable choice′ k =
-      record {
-        list-most = s .counted .list-most;
-        version-most = s .version-most;
-        in-version = omega (arith, s .whole-is);
-        in-choice = omega (arith, s .in-choice, k);
-        in-area = s .in-area;
-        in-block = s .in-block;
-      }
+module _ (list v choice area block : List ℕ) where
+  -- a choice area of the same length takes the choice's place
+  pub writable : length list ≤ listMost → length v ≤ versionMost → whole (recordsOf list) ≡ length v → length list / 12 ≤ length choice → length list ≤ length area
+      → length v ≤ length block → (choice′ : List ℕ) → length choice′ ≡ length choice → Writable list choice′ v area block
+  writable l m w c a b choice′ k = record { list-most = l; version-most = m; in-version = omega (arith, w); in-choice = omega (arith, c, k); in-area = a; in-block = b }
 
   module _ (q : Ruling) (fine : q ≡ Fine) (p : ℕ) (c : List Bit) (is-choice : IsChoice (recordsOf list) c) (choice′ area′ block′ : List ℕ) (w : Wrote)
       (swept : choice′ ≡ over (bitBytes c) choice) (done : Written list choice′ v area block w area′ block′) where

@@ -17,14 +17,15 @@ use Rattle.format.proofs.Rows.{length-recordsOf}
 use Rattle.format.proofs.Encoding.{records-encode, fits-encode}
 use Rattle.format.proofs.Rebuilding.{rebuilt-block, length-block, whole-agrees, inside-agrees}
 use Rattle.walk.proofs.Written.{walk-sizes}
-use Rattle.price.specs.Price.{priceOf, measured, measures}
-use Rattle.price.proofs.Measuring.{measured-fine}
+use Rattle.price.specs.Price.{priceOf}
+use Rattle.measure.specs.Measure.{measured, measures}
+use Rattle.measure.proofs.Measuring.{measured-fine}
 use Rattle.choice.specs.Choice.{Bit, IsChoice, listOf, keepAll}
 use Rattle.choice.proofs.Least.{again-keeps, again-list}
 use Rattle.choice.proofs.Lists.{length-list, well-formed-list}
 use Rattle.admit.specs.Admit.{admitRuling}
 use Rattle.admit.proofs.Admitting.{Sound, fine-of-written}
 use Rattle.least.specs.Partition.{leastOf}
 
 module _ (e f : ℕ) (list v st : List ℕ) (c a b : ℕ) (s : Sound e f list v st c a b) where
   -- of any choice

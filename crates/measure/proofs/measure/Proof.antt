@@ -1,4 +1,4 @@
--- `price::measure` meets its contract: each way out is the refusal of the check that failed there, or the figures of the list. Assumes nothing.
+-- `measure::measure` meets its contract: each way out is the refusal of the check that failed there, or the figures of the list. Assumes nothing.
 use native.Mathlib.Omega.{arith}
 use mathlib.Core.Path.{sym, _∙_, ap}
 use borrow.Author.Tests.{not-true, not-false}
@@ -11,11 +11,11 @@ use Rattle.walk.specs.declared.Totals.{Totals}
 use Rattle.walk.specs.Checks.{checks, walkRuling}
 use Rattle.walk.specs.Walked.{refusalOf}
 use Rattle.walk.proofs.Telling.{fine-of-through, stop-of-stopped}
 use Rattle.price.proofs.Bounds.{fits-of-at, unfit-of-range, price-most}
-use Rattle.price.proofs.Measuring.{measured-price, measured-length, measured-stop, measured-fine}
+use Rattle.measure.proofs.Measuring.{measured-price, measured-length, measured-stop, measured-fine}
 use borrow.Author.Needs.{needs}
-use Rattle.price.proofs.measure.Statement.{statement}
-use Rattle.price.proofs.measure.Tie as tie
+use Rattle.measure.proofs.measure.Statement.{statement}
+use Rattle.measure.proofs.measure.Tie as tie
 
 price-of-requires : tie.Need-price-of-requires
 price-of-requires c κs = search needs

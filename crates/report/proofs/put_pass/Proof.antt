@@ -1,0 +1,35 @@
+-- `report::put_pass` meets its contract: the cost, then the looks. Assumes nothing.
+use native.Mathlib.Omega.{arith}
+use Rattle.report.proofs.Composing.{written-append}
+use borrow.Author.Needs.{needs}
+use Rattle.report.proofs.put_pass.Statement.{statement}
+use Rattle.report.proofs.put_pass.Tie as tie
+
+slice-aggregate-put-field : tie.Need-slice-aggregate-put-field
+slice-aggregate-put-field c = search needs
+
+put-field-requires : tie.Need-put-field-requires
+put-field-requires c κs = search needs
+
+slice-aggregate-put-last : tie.Need-slice-aggregate-put-last
+slice-aggregate-put-last c = search needs
+
+put-last-requires : tie.Need-put-last-requires
+put-last-requires c κs = search needs
+
+same-length : tie.Need-same-length
+same-length c = search needs
+
+returns : tie.Need-returns
+returns c = written-append (omega arith) (c .before .before .before .before .before .before .before .put-field .ensures .0) (c .before .before .put-last .ensures .0)
+
+pub put-pass-spec : {M : Type 1} → statement M
+put-pass-spec =
+    tie.close
+    (tie.spec
+    slice-aggregate-put-field
+    put-field-requires
+    slice-aggregate-put-last
+    put-last-requires
+    same-length
+    returns)
