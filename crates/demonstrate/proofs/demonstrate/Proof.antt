@@ -1,4 +1,4 @@
--- `demand::demonstrate` meets its contract: the inputs are admitted for the shortest areas, so each of the four calls is accepted, and demand 3 holds
+-- `demonstrate::demonstrate` meets its contract: the inputs are admitted for the shortest areas, so each of the four calls is accepted, and demand 3 holds
 -- of what they answer and write. Assumes nothing.
 use Prim.Native.Nat.{ℕ, _*_, _-_}
 use native.Mathlib.Omega.{arith}
@@ -9,12 +9,12 @@ use Rattle.format.specs.declared.Ruling.the-variants.{Fine}
 use Rattle.price.specs.Price.{priceOf}
 use Rattle.admit.specs.Admit.{admitRuling, refusalIn}
 use Rattle.admit.proofs.Admitting.{fine-of-at, stop-of-stopped}
 use Rattle.demand.specs.declared.Demonstrated.the-variants as demonstrated
 use Rattle.demand.specs.Demand.{Areas, shorter, figuresIn, demandRuling}
 use Rattle.demand.proofs.Demanding.{list-room, block-room, list-made, block-made, demand-holds}
 use borrow.Author.Needs.{needs}
-use Rattle.demand.proofs.demonstrate.Statement.{statement}
-use Rattle.demand.proofs.demonstrate.Tie as tie
+use Rattle.demonstrate.proofs.demonstrate.Statement.{statement}
+use Rattle.demonstrate.proofs.demonstrate.Tie as tie
 
 shortest-requires : tie.Need-shortest-requires
 shortest-requires c κs = search needs

@@ -1,7 +1,7 @@
--- `demand::shortest` meets its contract. Assumes nothing.
+-- `demonstrate::shortest` meets its contract. Assumes nothing.
 use borrow.Author.Tests.{le-leb, lt-leb}
-use Rattle.demand.proofs.shortest.Statement.{statement}
-use Rattle.demand.proofs.shortest.Tie as tie
+use Rattle.demonstrate.proofs.shortest.Statement.{statement}
+use Rattle.demonstrate.proofs.shortest.Tie as tie
 
 returns : tie.Need-returns
 returns c = rw (le-leb _ _ (c .if1 .taken))

@@ -1,7 +1,7 @@
--- `demand::figures_of` meets its contract. Assumes nothing.
+-- `demonstrate::figures_of` meets its contract. Assumes nothing.
 use borrow.Author.Needs.{needs}
-use Rattle.demand.proofs.figures_of.Statement.{statement}
-use Rattle.demand.proofs.figures_of.Tie as tie
+use Rattle.demonstrate.proofs.figures_of.Statement.{statement}
+use Rattle.demonstrate.proofs.figures_of.Tie as tie
 
 enum-known-a : tie.Need-enum-known-a
 enum-known-a c = search needs
