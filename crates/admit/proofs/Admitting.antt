@@ -109,7 +109,7 @@ areas-most list v c a b h =
     let l = both-of-and (leb (length list / 12) c) (leb (length list) a) (k .0) in
     (leb-true (length list / 12) c (l .0), leb-true (length list) a (l .1), leb-true (length v) b (k .1))
 
-areas-of-most : (list v : List ℕ) (c a b : ℕ) → length list / 12 ≤ c → length list ≤ a → length v ≤ b → areasFit list v c a b ≡ true
+pub areas-of-most : (list v : List ℕ) (c a b : ℕ) → length list / 12 ≤ c → length list ≤ a → length v ≤ b → areasFit list v c a b ≡ true
 areas-of-most list v c a b i j k =
     and-of-both (leb (length list / 12) c && leb (length list) a) (leb (length v) b)
     (and-of-both (leb (length list / 12) c) (leb (length list) a) (le-leb (length list / 12) c i) (le-leb (length list) a j)) (le-leb (length v) b k)
@@ -141,6 +141,11 @@ fine-of-longer e f list v st c a b c′ a′ b′ h i j k =
     let p = passed-of-fine e f list v st c a b h in
     let m = areas-most list v c a b (p .areas) in
     admit-fine e f list v st c′ a′ b′ (p .price) (p .lengths) (p .counts) (areas-of-most list v c′ a′ b′ (omega (arith, m .0)) (omega (arith, m .1)) (omega (arith, m .2))) (p .walked) (p .ends)
+
+-- in areas that are long enough, their lengths do not matter
+pub ruling-of-long : (e f : ℕ) (list v st : List ℕ) (c a b c′ a′ b′ : ℕ) → areasFit list v c a b ≡ true → areasFit list v c′ a′ b′ ≡ true
+    → admitRuling e f list v st c a b ≡ admitRuling e f list v st c′ a′ b′
+ruling-of-long e f list v st c a b c′ a′ b′ h k = rw (h, k)
 
 -- a written list that is well formed is admitted where price, lengths and areas are
 pub fine-of-written : (e f : ℕ) (l : List Record) (v st : List ℕ) (c a b : ℕ) → priceFits e f ≡ true → lengthsFit v st ≡ true → length l ≤ 4096

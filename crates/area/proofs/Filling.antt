@@ -51,3 +51,10 @@ module _ {whole before area : List ℕ} {out : ℕ} where
       sym (take-append-drop out area)
       ∙ ap (λ (p : List ℕ). p ++ drop out area) (sym (a .so-far ∙ append-nil (take out area)))
       ∙ ap (λ (p : List ℕ). whole ++ p) (a .beyond ∙ ap (λ (j : ℕ). drop j before) (filling-out a))
+
+-- what stands at the front of an area
+pub front : (k : ℕ) (s d : List ℕ) → k ≡ length s → take k (over s d) ≡ s
+front k s d e = take-at s (drop (length s) d) k (sym e)
+
+pub front-room : (s d : List ℕ) → length s ≤ length (over s d)
+front-room s d = omega (arith, length-append s (drop (length s) d))

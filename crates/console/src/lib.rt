@@ -2,9 +2,6 @@
 //
 // A file that is missing, cannot be read or is longer than its buffer is bad, and so is a price not of 4 bytes.
 // The text is made by the crate `report`; only the reading and writing are here.
-use format::Figures;
-use format::Refusal;
-
 // What was read of a file: so many bytes, or that it is bad.
 pub enum Read {
     Bytes(usize),
@@ -51,8 +48,8 @@ pub fn read_price() -> Price {
     Price::Of(number(price[0], price[1]), number(price[2], price[3]))
 }
 
-// Writes the first bytes of a text.
-fn write_text(text: &[u8], n: usize) {
+// Writes out the first n bytes of a text.
+pub fn write(text: &[u8], n: usize) {
     if n <= text.len() {
         io::write_all(libc::STDOUT_FILENO, &text[0..n]);
     }
@@ -63,22 +60,6 @@ pub fn bad_file(name: &[u8]) {
     let mut text = [0u8; 256];
     if name.len() < 64 {
         let n = report::bad_file(&mut text, name);
-        write_text(&text, n);
-    }
-}
-
-// Writes out a refusal.
-pub fn refused(r: Refusal) {
-    let mut text = [0u8; 256];
-    let n = report::refusal(&mut text, r);
-    write_text(&text, n);
-}
-
-// Writes out a list with partition's figures and the pass's.
-pub fn report(list: &[u8], x: Figures, y: Figures) {
-    let mut text = [0u8; 262144];
-    if list.len() <= 65536 {
-        let n = report::report(&mut text, list, x, y);
-        write_text(&text, n);
+        write(&text, n);
     }
 }

@@ -6,8 +6,7 @@ use mathlib.Core.Path.{_≡_, refl, sym, _∙_, ap}
 use mathlib.Core.Bool.{Bool, true, false, cond}
 use mathlib.Core.List.{List}
 use lib.Dec.{leb}
-use lib.ListN.{length, take, drop, length-append}
-use lib.Seq.{take-at}
+use lib.ListN.{length, take}
 use borrow.Author.Tests.{leb-true, leb-false}
 use Rattle.format.specs.declared.Record.{Record}
 use Rattle.format.specs.declared.Figures.{Figures}
@@ -20,6 +19,7 @@ use Rattle.format.proofs.Encoding.{records-encode, length-encode}
 use Rattle.format.proofs.Rebuilding.{length-block, whole-agrees}
 use Rattle.price.specs.Price.{priceOf, cost}
 use Rattle.area.specs.Area.{over}
+use Rattle.area.proofs.Filling.{front, front-room}
 use Rattle.choice.specs.Choice.{Bit, bitBytes, listOf}
 use Rattle.choice.proofs.Least.{least-is-least, least-fits}
 use Rattle.writer.specs.Divide.{figures, Divided}
@@ -47,13 +47,6 @@ shorter-right a b = go (leb a b) refl
     go : (t : Bool) → leb a b ≡ t → cond t a b ≤ b
     go true e = leb-true a b e
     go false e = omega arith
-
--- what stands at the front of an area
-pub front : (k : ℕ) (s d : List ℕ) → k ≡ length s → take k (over s d) ≡ s
-front k s d e = take-at s (drop (length s) d) k (sym e)
-
-pub front-room : (s d : List ℕ) → length s ≤ length (over s d)
-front-room s d = omega (arith, length-append s (drop (length s) d))
 
 -- a call that divides, where its ruling is fine
 module _ (q : Ruling) (p : ℕ) (list v choice area block : List ℕ) (c : List Bit) (looks : ℕ) (r : Answer) (choice′ area′ block′ : List ℕ)

@@ -16,6 +16,12 @@ pub struct Tally {
     pub wrong: usize,
 }
 
+// The calls that are tried.
+enum Call {
+    Partition,
+    Pass,
+}
+
 // The figures that a call is to answer.
 struct Due {
     cost: usize,
@@ -59,20 +65,6 @@ fn tallied(mut tally: Tally, count: Count, passed: Outcome, right: bool) -> Tall
     tally
 }
 
-fn same(a: &[u8], b: &[u8]) -> bool {
-    if a.len() != b.len() {
-        return false;
-    }
-    let mut i = 0;
-    while i < a.len() {
-        if a[i] != lists::at(b, i) {
-            return false;
-        }
-        i += 1;
-    }
-    true
-}
-
 // Whether a call answers the figures due, and a whole length of 0, which neither call gives.
 fn figures_are(answer: Answer, due: Due) -> bool {
     let Answer::Accepted(figures) = answer else {
@@ -102,17 +94,34 @@ fn areas_are(
     list: &[u8],
     stored: &[u8],
 ) -> bool {
-    if !same(choice, bits) {
+    if !check::same(choice, bits) {
         return false;
     }
-    if !same(area, list) {
+    if !check::same(area, list) {
         return false;
     }
-    same(block, stored)
+    check::same(block, stored)
 }
 
-// Runs partition in areas that hold 238 everywhere.
-fn partition_gives(
+// Makes a call on a list, with E 2 and F 2.
+fn made(
+    call: Call,
+    list: &[u8],
+    version: &[u8],
+    store: &[u8],
+    choice: &mut [u8],
+    area: &mut [u8],
+    block: &mut [u8],
+) -> Answer {
+    match call {
+        Call::Partition => least::partition(2, 2, list, version, store, choice, area, block),
+        Call::Pass => linear::pass(2, 2, list, version, store, choice, area, block),
+    }
+}
+
+// Whether a call, in areas that hold 238 everywhere, answers the figures due and leaves the areas as expected.
+fn gives(
+    call: Call,
     list: &[u8],
     version: &[u8],
     store: &[u8],
@@ -124,9 +133,8 @@ fn partition_gives(
     let mut choice = [238u8; 8];
     let mut area = [238u8; 80];
     let mut block = [238u8; 56];
-    let answer = least::partition(
-        2,
-        2,
+    let answer = made(
+        call,
         list,
         version,
         store,
@@ -140,60 +148,9 @@ fn partition_gives(
     areas_are(&choice, &area, &block, bits, new_list, stored)
 }
 
-// Whether partition gives the choice in `bits`, its list and its stored block, and leaves what lies beyond them. It has no looks.
-fn partition_right(
-    n: usize,
-    sizes: &[u8],
-    list: &[u8],
-    version: &[u8],
-    store: &[u8],
-    count: Count,
-    bits: &[u8],
-) -> bool {
-    let mut new_list = [238u8; 80];
-    let mut stored = [238u8; 56];
-    brute::write_list(n, sizes, bits, &mut new_list);
-    brute::write_block(n, sizes, bits, version, &mut stored);
-    let due = Due {
-        cost: count.cost,
-        entries: count.entries,
-        stored: count.stored,
-        looks: 0,
-    };
-    partition_gives(list, version, store, due, bits, &new_list, &stored)
-}
-
-// Runs pass in areas that hold 238 everywhere.
-fn pass_gives(
-    list: &[u8],
-    version: &[u8],
-    store: &[u8],
-    due: Due,
-    bits: &[u8],
-    new_list: &[u8],
-    stored: &[u8],
-) -> bool {
-    let mut choice = [238u8; 8];
-    let mut area = [238u8; 80];
-    let mut block = [238u8; 56];
-    let answer = linear::pass(
-        2,
-        2,
-        list,
-        version,
-        store,
-        &mut choice,
-        &mut area,
-        &mut block,
-    );
-    if !figures_are(answer, due) {
-        return false;
-    }
-    areas_are(&choice, &area, &block, bits, new_list, stored)
-}
-
-// Whether pass gives the choice in `bits`, its list and its stored block, and leaves what lies beyond them.
-fn pass_right(
+// Whether a call gives the choice in `bits`, its list and its stored block, and leaves what lies beyond them.
+fn is_right(
+    call: Call,
     n: usize,
     sizes: &[u8],
     list: &[u8],
@@ -206,7 +163,7 @@ fn pass_right(
     let mut stored = [238u8; 56];
     brute::write_list(n, sizes, bits, &mut new_list);
     brute::write_block(n, sizes, bits, version, &mut stored);
-    pass_gives(list, version, store, due, bits, &new_list, &stored)
+    gives(call, list, version, store, due, bits, &new_list, &stored)
 }
 
 // The most looks at n records: 2n - 1, and none at none.
@@ -254,7 +211,7 @@ fn pass_tried(
         stored: end.stored,
         looks,
     };
-    let mut right = pass_right(n, sizes, list, version, store, due, &bits);
+    let mut right = is_right(Call::Pass, n, sizes, list, version, store, due, &bits);
     if !bounded(n, due, least, given.cost) {
         right = false;
     }
@@ -279,7 +236,13 @@ fn tried(
     let mut bits = [238u8; 8];
     let count = brute::count_all(n, kinds, sizes, &mut bits);
     let passed = pass_tried(n, kinds, sizes, list, version, store, count.cost);
-    let mut right = partition_right(n, sizes, list, version, store, count, &bits);
+    let due = Due {
+        cost: count.cost,
+        entries: count.entries,
+        stored: count.stored,
+        looks: 0,
+    };
+    let mut right = is_right(Call::Partition, n, sizes, list, version, store, due, &bits);
     if !passed.right {
         right = false;
     }

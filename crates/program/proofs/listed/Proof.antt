@@ -1,0 +1,105 @@
+-- `program::listed` meets its contract: partition's refusal, or its list with both figures. Assumes nothing.
+use Prim.Native.Nat.{ℕ, _*_, _-_}
+use native.Mathlib.Omega.{arith}
+use mathlib.Core.Path.{sym, _∙_, ap}
+use Rattle.program.proofs.Telling.{stop-of-answer, list-room, text-room, text-listed}
+use borrow.Author.Needs.{needs}
+use Rattle.program.proofs.listed.Statement.{statement}
+use Rattle.program.proofs.listed.Tie as tie
+
+partition-requires : tie.Need-partition-requires
+partition-requires c κs = search needs
+
+enum-known-answer : tie.Need-enum-known-answer
+enum-known-answer c = search needs
+
+refusal-requires : tie.Need-refusal-requires
+refusal-requires c κs = search needs
+
+enum-known-answer-2 : tie.Need-enum-known-answer-2
+enum-known-answer-2 c = search needs
+
+index-requires : tie.Need-index-requires
+index-requires c κs = search needs
+
+mul-n : tie.Need-mul-n
+mul-n c = search needs
+
+sub-report : tie.Need-sub-report
+sub-report c = search needs
+
+part-report-start : tie.Need-part-report-start
+part-report-start c = search needs
+
+part-report-end : tie.Need-part-report-end
+part-report-end c =
+    let g = c .before .before .before .before .before .before .before .before .before .before .before .before .before .before .before .before .before .before .before .before .before .before .before .args in
+    let roomy = c .before .before .before .before .before .before .before .before .before .before .before .before .before .before .before .before .before .before .before .before .before .before .before .pre in
+    omega (arith, c .before .before .index .ensures .0, list-room (g .e) (g .f) (g .list .now) (g .version .now) (g .store .now) (g .choice .now) (g .area .now) (g .block .now) (g .text .now) roomy _ _ _ _ _ _ (c .before .before .before .before .before .before .before .before .before .before .before .before .partition .ensures) _ (c .before .before .before .before .answer2 .given .1) (12 * c .before .before .index .result) (ap (λ (k : ℕ). 12 * k) (c .before .before .index .ensures .0)))
+
+report-requires : tie.Need-report-requires
+report-requires c κs =
+    let g = c .before .before .before .before .before .before .before .before .before .before .before .before .before .before .before .before .before .before .before .before .before .before .before .before .args in
+    let roomy = c .before .before .before .before .before .before .before .before .before .before .before .before .before .before .before .before .before .before .before .before .before .before .before .before .pre in
+    text-room (g .e) (g .f) (g .list .now) (g .version .now) (g .store .now) (g .choice .now) (g .area .now) (g .block .now) (g .text .now) roomy _ _ _ _ _ _ (c .before .before .before .before .before .before .before .before .before .before .before .before .before .partition .ensures) _ (c .before .before .before .before .before .answer2 .given .1) (12 * c .before .before .before .index .result - 0) (omega (arith, c .before .before .before .index .ensures .0))
+
+same-length : tie.Need-same-length
+same-length c = search needs
+
+same-length-2 : tie.Need-same-length-2
+same-length-2 c = search needs
+
+same-length-3 : tie.Need-same-length-3
+same-length-3 c = search needs
+
+same-length-4 : tie.Need-same-length-4
+same-length-4 c = search needs
+
+returns : tie.Need-returns
+returns c =
+    let g = c .before .before .before .before .before .before .before .before .before .before .before .before .before .before .before .before .before .before .before .before .before .before .before .before .args in
+    let roomy = c .before .before .before .before .before .before .before .before .before .before .before .before .before .before .before .before .before .before .before .before .before .before .before .before .pre in
+    rw (stop-of-answer (g .e) (g .f) (g .list .now) (g .version .now) (g .store .now) (g .choice .now) (g .area .now) (g .block .now) (g .text .now) roomy _ _ _ _ _ _ (c .before .before .before .before .before .before .before .before .before .before .before .before .before .partition .ensures) _ (c .before .before .before .before .before .answer .given .1)) (c .before .before .refusal .ensures)
+
+same-length-5 : tie.Need-same-length-5
+same-length-5 c = search needs
+
+same-length-6 : tie.Need-same-length-6
+same-length-6 c = search needs
+
+same-length-7 : tie.Need-same-length-7
+same-length-7 c = search needs
+
+same-length-8 : tie.Need-same-length-8
+same-length-8 c = search needs
+
+returns-2 : tie.Need-returns-2
+returns-2 c =
+    let g = c .before .before .before .before .before .before .before .before .before .before .before .before .before .before .before .before .before .before .before .before .before .before .before .before .before .before .before .args in
+    let roomy = c .before .before .before .before .before .before .before .before .before .before .before .before .before .before .before .before .before .before .before .before .before .before .before .before .before .before .before .pre in
+    rw (text-listed (g .e) (g .f) (g .list .now) (g .version .now) (g .store .now) (g .choice .now) (g .area .now) (g .block .now) (g .text .now) roomy _ _ _ _ (c .before .before .before .before .before .before .before .before .before .before .before .before .before .before .before .before .partition .ensures) _ (g .y) (c .before .before .before .before .before .before .before .before .answer2 .given .1) (12 * c .before .before .before .before .before .before .index .result - 0) (omega (arith, c .before .before .before .before .before .before .index .ensures .0))) (c .before .before .report .ensures)
+
+pub listed-spec : {M : Type 1} → statement M
+listed-spec =
+    tie.close
+    (tie.spec
+    partition-requires
+    enum-known-answer
+    refusal-requires
+    enum-known-answer-2
+    index-requires
+    mul-n
+    sub-report
+    part-report-start
+    part-report-end
+    report-requires
+    same-length
+    same-length-2
+    same-length-3
+    same-length-4
+    returns
+    same-length-5
+    same-length-6
+    same-length-7
+    same-length-8
+    returns-2)
