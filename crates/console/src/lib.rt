@@ -2,6 +2,9 @@
 //
 // A file that is missing, cannot be read or is longer than its buffer is bad, and so is a price not of 4 bytes.
 // The text is made by the crate `report`; only the reading and writing are here.
+ghost use mathlib.Core.Path.{_≡_};
+ghost use lib.ListN.{length};
+
 // What was read of a file: so many bytes, or that it is bad.
 pub enum Read {
     Bytes(usize),
@@ -46,6 +49,13 @@ pub fn read_price() -> Price {
         return Price::Bad;
     }
     Price::Of(number(price[0], price[1]), number(price[2], price[3]))
+}
+
+// An area for the text of any list in a file of 65,536 bytes.
+pub fn text_area() -> [u8; 262144]
+    ensures { λ r. ⌜ 262144 ≡ length r ⌝ }
+{
+    [0; 262144]
 }
 
 // Writes out the first n bytes of a text.

@@ -64,10 +64,10 @@ pub fn text_of(
 fn write_text(e: u32, f: u32, items: &[u8], version: &[u8], store: &[u8])
     requires { ⌜ (length (now items) ≤ 65536) × (length (now version) ≤ 65536) ⌝ }
 {
-    let mut choice = [0u8; 8192];
+    let mut choice = io::large_buffer();
     let mut area = io::large_buffer();
     let mut block = io::large_buffer();
-    let mut text = [0u8; 262144];
+    let mut text = console::text_area();
     let n = text_of(
         e,
         f,
