@@ -1,8 +1,7 @@
 // The cases of check, show and rebuild, most of them over one list, N5 M5@15 N3, whose stored block is "abcdefgh" and whose
-// store is the letters A to T; it rebuilds "abcdePQRSTfgh".
-use crate::text;
-use crate::watch;
+// store is the letters A to T; it rebuilds "abcdePQRSTfgh". Every answer, part and area against what is worked out by hand from document 01.
 use watch::Values;
+use watch::text;
 
 const STORE: [u8; 20] = *b"ABCDEFGHIJKLMNOPQRST";
 
@@ -221,7 +220,7 @@ fn rebuild_precedence() {
     refuses(b"10 before 9", 12, b"N5 M5@15 N3", b"abcdefghi", 10, 0);
 }
 
-pub fn all() {
+fn main() {
     check_accepts();
     check_refuses_lists();
     check_refuses_stores();

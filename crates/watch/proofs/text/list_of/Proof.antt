@@ -1,10 +1,10 @@
--- `text::list_of` is safe and ends: the area keeps its length, and the measure is what is left of the text. Assumes nothing.
+-- `watch::text::list_of` is safe and ends: the area keeps its length, and the measure is what is left of the text. Assumes nothing.
 use Prim.Native.Nat.{_-_, _≤_}
 use mathlib.Core.Path.{_≡_}
 use lib.ListN.{length}
 use borrow.Author.Needs.{needs}
-use Rattle.cases.proofs.text.list_of.Statement.{statement}
-use Rattle.cases.proofs.text.list_of.Tie as tie
+use Rattle.watch.proofs.text.list_of.Statement.{statement}
+use Rattle.watch.proofs.text.list_of.Tie as tie
 
 abbrev Inv-loop : tie.InvT-loop
 Inv-loop text out₀ n₀ row₀ i₀ out n row i = (i ≤ length text) × (length out ≡ length out₀)

@@ -5,8 +5,8 @@ use native.Mathlib.Omega.{arith}
 use lib.ListN.{length}
 use borrow.Author.Needs.{needs}
 use lib.ListN.{length-set}
-use Rattle.cases.proofs.watch.fill.Statement.{statement}
-use Rattle.cases.proofs.watch.fill.Tie as tie
+use Rattle.watch.proofs.fill.Statement.{statement}
+use Rattle.watch.proofs.fill.Tie as tie
 
 abbrev Inv-loop : tie.InvT-loop
 Inv-loop area₀ i₀ area i = (i ≤ length area) × (length area ≡ length area₀)

@@ -1,7 +1,6 @@
-// The cases of measure.
-use crate::text;
-use crate::watch;
+// The cases of measure: every answer against what is worked out by hand from document 01.
 use watch::Values;
+use watch::text;
 
 // One case: a price, the bytes of a list, and the answer.
 fn measured(name: &[u8], e: u32, f: u32, list: &[u8], want: Values) {
@@ -105,7 +104,7 @@ fn precedence() {
     refused(b"5 at 1 before 4 at 2", b"N5 N5 N0", 5, 1);
 }
 
-pub fn all() {
+fn main() {
     figures();
     prices();
     lengths(&io::large_buffer());

@@ -1,12 +1,12 @@
-// The cases of partition: sheets A to J, and one for each number but 2.
+// The cases of partition: sheets A to J, and one for each number but 2, which takes a version of more than 16,777,216 bytes or a store of more
+// than 268,435,456 and is in the tests in C. Every answer, and every area to its last byte, against what is worked out by hand from document 01.
 //
 // The sheets are at P = 10. Their new bytes are digits, and their store is the letters A to Z and a to n, so that no match goes
 // on in the store where the one before it ended.
-use crate::text;
-use crate::watch;
 use format::Answer;
 use format::Fault;
 use watch::Values;
+use watch::text;
 
 const STORE: [u8; 40] = *b"ABCDEFGHIJKLMNOPQRSTUVWXYZabcdefghijklmn";
 
@@ -541,7 +541,7 @@ fn precedence() {
     refused(b"8 before the short end", b"N5 M19@1 N1", 8, 1);
 }
 
-pub fn all() {
+fn main() {
     sheet_a();
     sheet_b();
     sheet_c();

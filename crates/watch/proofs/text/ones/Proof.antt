@@ -1,10 +1,10 @@
--- `text::ones` is safe and ends: the area keeps its length, and the measure is the number of records left. Assumes nothing.
+-- `watch::text::ones` is safe and ends: the area keeps its length, and the measure is the number of records left. Assumes nothing.
 use Prim.Native.Nat.{_-_, _≤_}
 use mathlib.Core.Path.{_≡_}
 use lib.ListN.{length}
 use borrow.Author.Needs.{needs}
-use Rattle.cases.proofs.text.ones.Statement.{statement}
-use Rattle.cases.proofs.text.ones.Tie as tie
+use Rattle.watch.proofs.text.ones.Statement.{statement}
+use Rattle.watch.proofs.text.ones.Tie as tie
 
 abbrev Inv-loop : tie.InvT-loop
 Inv-loop kind count out₀ row n₀ i₀ out n i = (i ≤ count) × (length out ≡ length out₀)

@@ -2,8 +2,8 @@
 use Prim.Native.Nat.{_-_, _≤_}
 use lib.ListN.{length}
 use borrow.Author.Needs.{needs}
-use Rattle.cases.proofs.watch.first_wrong.Statement.{statement}
-use Rattle.cases.proofs.watch.first_wrong.Tie as tie
+use Rattle.watch.proofs.first_wrong.Statement.{statement}
+use Rattle.watch.proofs.first_wrong.Tie as tie
 
 abbrev Inv-loop : tie.InvT-loop
 Inv-loop area front i₀ i = i ≤ length area

@@ -1,7 +1,9 @@
-// What a case expects, and the line that it writes: its name and `ok`, or `WRONG` with what was got.
+// For programs of cases: what a case expects, and the line that it writes: its name and `ok`, or `WRONG` with what was got.
 //
 // An area is filled with a pattern before the call, and looked at to its last byte after it: what the call is to write, and
 // the pattern beyond.
+pub mod text;
+
 use format::Answer;
 
 // An answer, as numbers: 0 where it gives none.
