@@ -1,7 +1,7 @@
 // What the program `partition` reads and writes: the files of the folder where it is run, and its text.
 //
 // A file that is missing, cannot be read or is longer than its buffer is bad, and so is a price not of 4 bytes.
-// The text is made by the crate `report`; only the reading and writing are here.
+// The text of a run is made by the crate `program`, that of a bad file by `report`; only the reading and writing are here.
 ghost use mathlib.Core.Path.{_≡_};
 ghost use lib.ListN.{length};
 

@@ -39,7 +39,7 @@ fn listed(
 }
 
 // The text of the program, and its length. The pass comes first, so that its areas can then be partition's.
-pub fn text_of(
+fn text_of(
     e: u32,
     f: u32,
     list: &[u8],
