@@ -2,13 +2,16 @@
 //
 // A file that is missing, cannot be read or is longer than its buffer is bad, and so is a price not of 4 bytes.
 // The text of a run is made by the crate `program`, that of a bad file by `report`; only the reading and writing are here.
+ghost use Prim.Native.Nat.{_+_, _*_};
 ghost use mathlib.Core.Path.{_≡_};
 ghost use lib.ListN.{length};
+ghost use Rattle.io.specs.Counts.{Counts};
+ghost use Rattle.console.specs.Price.{priceIn};
 
-// What was read of a file: so many bytes, or that it is bad.
-pub enum Read {
-    Bytes(usize),
-    Bad,
+// What was read of a file: whether it is bad, and how many bytes are at the front of its buffer.
+pub struct Read {
+    pub bad: bool,
+    pub bytes: usize,
 }
 
 // What was read of the file price: E and F, or that it is bad.
@@ -18,37 +21,52 @@ pub enum Price {
 }
 
 // Reads a whole file into a buffer.
-pub fn read_file(name: &[u8], buffer: &mut [u8]) -> Read {
+pub fn read_file(name: &[u8], buffer: &mut [u8]) -> Read
+    ensures { λ r. ⌜ Counts (r .bytes) (now (buffer .exit)) ⌝ }
+{
     let fd = os::open_read(name);
     if fd < 0 {
-        return Read::Bad;
+        return Read {
+            bad: true,
+            bytes: 0,
+        };
     }
-    let n = io::read_full(fd, buffer);
+    let bytes = io::read_full(fd, buffer);
     let mut more = [0u8; 1];
     let rest = libc::read(fd, &mut more);
     libc::close(fd);
-    if rest != 0 {
-        return Read::Bad;
+    Read {
+        bad: rest != 0,
+        bytes,
     }
-    Read::Bytes(n)
 }
 
 // A number of 2 bytes, lowest first.
-fn number(low: u8, high: u8) -> u32 {
+fn number(low: u8, high: u8) -> u32
+    ensures { λ r. ⌜ r ≡ low + 256 * high ⌝ }
+{
     (low as u32) + 256 * (high as u32)
 }
 
-// Reads the file price: E, then F.
-pub fn read_price() -> Price {
-    let mut price = [0u8; 4];
-    let read = read_file(b"price", &mut price);
-    let Read::Bytes(n) = read else {
-        return Price::Bad;
-    };
-    if n != 4 {
+// The price in the bytes of the file price.
+fn price_in(bytes: &[u8]) -> Price
+    ensures { λ r. ⌜ r ≡ priceIn (now (bytes .entry)) ⌝ }
+{
+    if bytes.len() != 4 {
         return Price::Bad;
     }
-    Price::Of(number(price[0], price[1]), number(price[2], price[3]))
+    Price::Of(number(bytes[0], bytes[1]), number(bytes[2], bytes[3]))
+}
+
+// Reads the file price.
+pub fn read_price() -> Price {
+    let mut buffer = [0u8; 4];
+    let read = read_file(b"price", &mut buffer);
+    if read.bad {
+        return Price::Bad;
+    }
+    let n = read.bytes;
+    price_in(&buffer[..n])
 }
 
 // An area for the text of any list in a file of 65,536 bytes.

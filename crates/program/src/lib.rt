@@ -8,7 +8,6 @@ ghost use Rattle.price.specs.Price.{priceOf};
 ghost use Rattle.report.specs.Text.{Written};
 ghost use Rattle.program.specs.Program.{programRuling, textFor, programText, Roomy};
 use console::Price;
-use console::Read;
 use format::Answer;
 use format::Figures;
 
@@ -88,12 +87,11 @@ fn with_version(e: u32, f: u32, items: &[u8], version: &[u8])
 {
     let mut store = io::large_buffer();
     let read = console::read_file(b"store", &mut store);
-    let Read::Bytes(n) = read else {
+    if read.bad {
         return console::bad_file(b"store");
-    };
-    if n <= 65536 {
-        write_text(e, f, items, version, &store[0..n]);
     }
+    let n = read.bytes;
+    write_text(e, f, items, version, &store[..n]);
 }
 
 // Reads the version, after price and list.
@@ -102,24 +100,22 @@ fn with_items(e: u32, f: u32, items: &[u8])
 {
     let mut version = io::large_buffer();
     let read = console::read_file(b"version", &mut version);
-    let Read::Bytes(n) = read else {
+    if read.bad {
         return console::bad_file(b"version");
-    };
-    if n <= 65536 {
-        with_version(e, f, items, &version[0..n]);
     }
+    let n = read.bytes;
+    with_version(e, f, items, &version[..n]);
 }
 
 // Reads the list, after the price.
 fn with_price(e: u32, f: u32) {
     let mut items = io::large_buffer();
     let read = console::read_file(b"items", &mut items);
-    let Read::Bytes(n) = read else {
+    if read.bad {
         return console::bad_file(b"items");
-    };
-    if n <= 65536 {
-        with_items(e, f, &items[0..n]);
     }
+    let n = read.bytes;
+    with_items(e, f, &items[..n]);
 }
 
 // The whole program, in the folder where it is run.
