@@ -4,9 +4,10 @@ use Prim.Native.Nat.{ℕ, _+_, _-_, _≤_}
 use native.Mathlib.Omega.{arith}
 use mathlib.Core.Path.{_≡_, refl, sym, _∙_, ap}
 use mathlib.Core.List.{List, [], _++_, append-assoc, append-nil}
-use lib.ListN.{length, take, drop, length-append, length-drop, take-append-drop}
+use lib.ListN.{length, take, drop, length-append, take-append-drop}
 use lib.Seq.{length-take-le, take-at, drop-at, drop-drop}
 use Rattle.area.specs.Area.{pasted, over}
+use Rattle.area.proofs.Pasting.{length-pasted}
 
 -- of `whole`, the first `out` bytes stand in the area and `left` is to come; beyond them the area is as before
 pub record Filling (whole before area : List ℕ) (out : ℕ) (left : List ℕ) : Type 0 where
@@ -35,7 +36,7 @@ module _ {whole before area : List ℕ} {out : ℕ} where
       let l : length (take out area ++ s) ≡ out + length s = length-append (take out area) s ∙ omega (arith, length-take-le out area (a .within)) in
       let t : take out′ area′ ≡ take out area ++ s = rw (e, f) (take-at (take out area ++ s) (drop (out + length s) area) (out + length s) l) in
       let d : drop out′ area′ ≡ drop (out + length s) area = rw (e, f) (drop-at (take out area ++ s) (drop (out + length s) area) (out + length s) l) in
-      let n : length area′ ≡ length area = ap length e ∙ length-append (take out area ++ s) (drop (out + length s) area) ∙ omega (arith, l, length-drop (out + length s) area) in
+      let n : length area′ ≡ length area = ap length e ∙ length-pasted out s area room in
       record {
         so-far = a .so-far ∙ sym (append-assoc (take out area) s left) ∙ ap (λ (p : List ℕ). p ++ left) (sym t);
         beyond = d ∙ drop-more area before out (out + length s) (a .beyond) (omega arith) ∙ ap (λ (j : ℕ). drop j before) (sym f);
