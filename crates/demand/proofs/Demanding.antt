@@ -15,7 +15,7 @@ use Rattle.format.specs.declared.Ruling.{Ruling}
 use Rattle.format.specs.declared.Ruling.the-variants.{Fine}
 use Rattle.format.specs.Record.{recordsOf, encode}
 use Rattle.format.specs.Meaning.{whole, stored, blockOf, rebuilt}
-use Rattle.format.proofs.Encoding.{records-encode, length-encode}
+use Rattle.format.proofs.Encoding.{records-encode}
 use Rattle.format.proofs.Rebuilding.{length-block, whole-agrees}
 use Rattle.price.specs.Price.{priceOf, cost}
 use Rattle.area.specs.Area.{over}
@@ -23,6 +23,7 @@ use Rattle.area.proofs.Filling.{front, front-room}
 use Rattle.choice.specs.Choice.{Bit, bitBytes, listOf}
 use Rattle.choice.proofs.Least.{least-is-least, least-fits}
 use Rattle.writer.specs.Divide.{figures, Divided}
+use Rattle.writer.proofs.Dividing.{divided-answer, divided-choice, divided-list, divided-block, list-handed-on, list-room as listed-room}
 use Rattle.admit.specs.Admit.{admitRuling, divideRuling}
 use Rattle.admit.proofs.Admitting.{Sound, sound-of-fine, fine-of-longer, store-most}
 use Rattle.rebuild.specs.Rebuild.{rebuildRuling, lengthOnly, Rebuilt}
@@ -48,20 +49,11 @@ shorter-right a b = go (leb a b) refl
     go true e = leb-true a b e
     go false e = omega arith
 
--- a call that divides, where its ruling is fine
-module _ (q : Ruling) (p : ℕ) (list v choice area block : List ℕ) (c : List Bit) (looks : ℕ) (r : Answer) (choice′ area′ block′ : List ℕ)
-    (d : Divided q p list v choice area block c looks r choice′ area′ block′) (fine : q ≡ Fine) where
-  pub divided-figures : figuresIn r ≡ figures p (listOf (recordsOf list) c) looks
-  divided-figures = ap figuresIn (rw fine at (d .answered))
-
-  pub divided-choice : choice′ ≡ over (bitBytes c) choice
-  divided-choice = rw fine at (d .choice-after)
-
-  pub divided-list : area′ ≡ over (encode (listOf (recordsOf list) c)) area
-  divided-list = rw fine at (d .area-after)
-
-  pub divided-block : block′ ≡ over (blockOf (listOf (recordsOf list) c) v) block
-  divided-block = rw fine at (d .block-after)
+-- the figures of a call whose ruling is fine
+divided-figures : (q : Ruling) (p : ℕ) (list v choice area block : List ℕ) (c : List Bit) (looks : ℕ) (r : Answer) (choice′ area′ block′ : List ℕ)
+    → Divided q p list v choice area block c looks r choice′ area′ block′ → q ≡ Fine → figuresIn r ≡ figures p (listOf (recordsOf list) c) looks
+divided-figures q p list v choice area block c looks r choice′ area′ block′ d fine =
+    ap figuresIn (divided-answer q p list v choice area block c looks r choice′ area′ block′ d fine)
 
 -- in areas of which the shortest of each kind is long enough
 module _ (e f : ℕ) (list v st : List ℕ) (x : Areas) (fine : demandRuling e f list v st x ≡ Fine) where
@@ -145,8 +137,8 @@ module _ (e f : ℕ) (list v st : List ℕ) (x : Areas) (fine : demandRuling e f
     first-block : after .block ≡ over (blockOf (listOf (recordsOf list) (leastOf e f list)) v) (x .block)
     first-block = divided-block _ (priceOf e f) list v (x .choice) (x .list) (x .block) (leastOf e f list) 0 r (after .choice) (after .list) (after .block) first first-fine
 
-    list-length : 12 * figuresIn r .entries ≡ length (encode (listOf (recordsOf list) (leastOf e f list)))
-    list-length = ap (λ (y : Figures). 12 * y .entries) first-figures ∙ sym (length-encode (listOf (recordsOf list) (leastOf e f list)))
+    list-length : 12 * figuresIn r .entries ≡ 12 * length (listOf (recordsOf list) (leastOf e f list))
+    list-length = ap (λ (y : Figures). 12 * y .entries) first-figures
 
     block-length : figuresIn r .stored ≡ length (blockOf (listOf (recordsOf list) (leastOf e f list)) v)
     block-length =
@@ -154,14 +146,14 @@ module _ (e f : ℕ) (list v st : List ℕ) (x : Areas) (fine : demandRuling e f
         ∙ sym (length-block (listOf (recordsOf list) (leastOf e f list)) v (omega (arith, whole-made)))
 
     pub list-room : 12 * figuresIn r .entries ≤ length (after .list)
-    list-room = omega (arith, list-length, ap length first-list, front-room (encode (listOf (recordsOf list) (leastOf e f list))) (x .list))
+    list-room = listed-room _ (priceOf e f) list v (x .choice) (x .list) (x .block) (leastOf e f list) 0 r (after .choice) (after .list) (after .block) first first-fine _ list-length
 
     pub block-room : figuresIn r .stored ≤ length (after .block)
     block-room = omega (arith, block-length, ap length first-block, front-room (blockOf (listOf (recordsOf list) (leastOf e f list)) v) (x .block))
 
     -- the written list and block, as they are handed on
     pub list-made : (k : ℕ) → k ≡ 12 * figuresIn r .entries → take k (after .list) ≡ encode (listOf (recordsOf list) (leastOf e f list))
-    list-made k q = rw first-list (front k (encode (listOf (recordsOf list) (leastOf e f list))) (x .list) (q ∙ list-length))
+    list-made k q = list-handed-on _ (priceOf e f) list v (x .choice) (x .list) (x .block) (leastOf e f list) 0 r (after .choice) (after .list) (after .block) first first-fine k (q ∙ list-length)
 
     pub block-made : (k : ℕ) → k ≡ figuresIn r .stored → take k (after .block) ≡ blockOf (listOf (recordsOf list) (leastOf e f list)) v
     block-made k q = rw first-block (front k (blockOf (listOf (recordsOf list) (leastOf e f list)) v) (x .block) (q ∙ block-length))

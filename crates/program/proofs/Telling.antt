@@ -17,13 +17,12 @@ use Rattle.format.proofs.Rulings.{fine-of-accepted, stop-of-refused}
 use Rattle.format.proofs.Rows.{length-recordsOf}
 use Rattle.format.proofs.Encoding.{length-encode, records-encode}
 use Rattle.price.specs.Price.{priceOf}
-use Rattle.area.specs.Area.{over}
-use Rattle.area.proofs.Filling.{front, front-room}
 use Rattle.choice.specs.Choice.{Bit, listOf}
 use Rattle.choice.proofs.Lists.{length-list}
 use Rattle.admit.specs.Admit.{divideRuling}
 use Rattle.admit.proofs.Admitting.{areas-of-most, ruling-of-long}
 use Rattle.writer.specs.Divide.{figures, Divided}
+use Rattle.writer.proofs.Dividing.{divided-answer, list-handed-on, list-room as listed-room}
 use Rattle.least.specs.Partition.{leastOf, Partitioned}
 use Rattle.report.specs.Text.{reportText}
 use Rattle.program.specs.Program.{programRuling, textFor, Roomy}
@@ -50,22 +49,19 @@ module _ (e f : ℕ) (list v st choice area block text : List ℕ) (roomy : Room
 
       pub figures-of-answer : x ≡ figures (priceOf e f) (listOf (recordsOf list) c) looks
       figures-of-answer =
-          let k : Accepted (figures (priceOf e f) (listOf (recordsOf list) c) looks) ≡ Accepted x = rw fine at (sym (d .answered) ∙ h) in
+          let k : Accepted x ≡ Accepted (figures (priceOf e f) (listOf (recordsOf list) c) looks) = sym h ∙ divided-answer _ (priceOf e f) list v choice area block c looks r choice′ area′ block′ d fine in
           cc
 
       -- the written list, as it is handed on
       module _ (n : ℕ) (n-is : n ≡ 12 * x .entries) where
-        whole-list : n ≡ length (encode (listOf (recordsOf list) c))
-        whole-list = n-is ∙ ap (λ (y : Figures). 12 * y .entries) figures-of-answer ∙ sym (length-encode (listOf (recordsOf list) c))
-
-        list-after : area′ ≡ over (encode (listOf (recordsOf list) c)) area
-        list-after = rw fine at (d .area-after)
+        all-records : n ≡ 12 * length (listOf (recordsOf list) c)
+        all-records = n-is ∙ ap (λ (y : Figures). 12 * y .entries) figures-of-answer
 
         front-is : take n area′ ≡ encode (listOf (recordsOf list) c)
-        front-is = rw list-after (front n (encode (listOf (recordsOf list) c)) area whole-list)
+        front-is = list-handed-on _ (priceOf e f) list v choice area block c looks r choice′ area′ block′ d fine n all-records
 
         pub list-room : n ≤ length area′
-        list-room = omega (arith, whole-list, ap length list-after, front-room (encode (listOf (recordsOf list) c)) area)
+        list-room = listed-room _ (priceOf e f) list v choice area block c looks r choice′ area′ block′ d fine n all-records
 
         pub text-room : 44 * (length (take n area′) / 12) + 160 ≤ length text
         text-room =

@@ -3,7 +3,6 @@ ghost use mathlib.Core.Path.{_≡_};
 ghost use Prim.Native.Nat.{_+_, _*_, _/_, _≤_, _<_};
 ghost use lib.ListN.{length};
 ghost use Rattle.format.specs.Record.{recordsOf};
-ghost use Rattle.area.specs.Area.{pasted};
 ghost use Rattle.report.specs.Text.{decimal, field, lastField, recordText, recordsText, leastText, passText, reportText, refusalText, badFileText, Written};
 use format::Figures;
 use format::Record;

@@ -1,10 +1,10 @@
--- From a choice in its area and what was written of it to the answer and the areas of the call.
+-- From a choice in its area and what was written of it to the answer and the areas of the call, and what these are where the call is accepted.
 -- Assumes nothing.
-use Prim.Native.Nat.{ℕ, _/_, _≤_}
+use Prim.Native.Nat.{ℕ, _*_, _/_, _≤_}
 use native.Mathlib.Omega.{arith}
-use mathlib.Core.Path.{_≡_, _∙_, ap}
+use mathlib.Core.Path.{_≡_, sym, _∙_, ap}
 use mathlib.Core.List.{List}
-use lib.ListN.{length}
+use lib.ListN.{length, take}
 use Rattle.format.specs.declared.Record.{Record}
 use Rattle.format.specs.declared.Ruling.{Ruling}
 use Rattle.format.specs.declared.Ruling.the-variants.{Fine, Stop}
@@ -15,13 +15,15 @@ use Rattle.format.specs.Limits.{listMost, versionMost}
 use Rattle.format.specs.Record.{recordsOf, encode}
 use Rattle.format.specs.Meaning.{whole, stored, blockOf}
 use Rattle.format.proofs.Rows.{length-recordsOf}
+use Rattle.format.proofs.Encoding.{length-encode}
 use Rattle.price.specs.Price.{cost}
 use Rattle.area.specs.Area.{over}
+use Rattle.area.proofs.Filling.{front, front-room}
 use Rattle.choice.specs.Choice.{Bit, bitBytes, bitsOf, IsChoice, listOf}
 use Rattle.choice.proofs.Lists.{length-choice, bits-over}
 use Rattle.writer.specs.declared.Wrote.{Wrote}
 use Rattle.writer.specs.Write.{listIn, Writable, Written}
-use Rattle.writer.specs.Divide.{Divided}
+use Rattle.writer.specs.Divide.{figures, Divided}
 
 pub divided-refused : (q : Ruling) (x : Refusal) (p : ℕ) (list v choice area block : List ℕ) (c : List Bit) (looks : ℕ) (r : Answer) → q ≡ Stop x → r ≡ Refused x
     → Divided q p list v choice area block c looks r choice area block
@@ -53,3 +55,29 @@ module _ (list v choice area block : List ℕ) where
           area-after = rw fine (done .area-after ∙ ap (λ (l : List Record). over (encode l) area) listed);
           block-after = rw fine (done .block-after ∙ ap (λ (l : List Record). over (blockOf l v) block) listed);
         }
+
+-- a call whose ruling is fine
+module _ (q : Ruling) (p : ℕ) (list v choice area block : List ℕ) (c : List Bit) (looks : ℕ) (r : Answer) (choice′ area′ block′ : List ℕ)
+    (d : Divided q p list v choice area block c looks r choice′ area′ block′) (fine : q ≡ Fine) where
+  pub divided-answer : r ≡ Accepted (figures p (listOf (recordsOf list) c) looks)
+  divided-answer = rw fine at (d .answered)
+
+  pub divided-choice : choice′ ≡ over (bitBytes c) choice
+  divided-choice = rw fine at (d .choice-after)
+
+  pub divided-list : area′ ≡ over (encode (listOf (recordsOf list) c)) area
+  divided-list = rw fine at (d .area-after)
+
+  pub divided-block : block′ ≡ over (blockOf (listOf (recordsOf list) c) v) block
+  divided-block = rw fine at (d .block-after)
+
+  -- the written list, as it is handed on
+  module _ (n : ℕ) (n-is : n ≡ 12 * length (listOf (recordsOf list) c)) where
+    whole-list : n ≡ length (encode (listOf (recordsOf list) c))
+    whole-list = n-is ∙ sym (length-encode (listOf (recordsOf list) c))
+
+    pub list-handed-on : take n area′ ≡ encode (listOf (recordsOf list) c)
+    list-handed-on = rw divided-list (front n (encode (listOf (recordsOf list) c)) area whole-list)
+
+    pub list-room : n ≤ length area′
+    list-room = omega (arith, whole-list, ap length divided-list, front-room (encode (listOf (recordsOf list) c)) area)

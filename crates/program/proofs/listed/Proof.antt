@@ -1,7 +1,7 @@
 -- `program::listed` meets its contract: partition's refusal, or its list with both figures. Assumes nothing.
 use Prim.Native.Nat.{ℕ, _*_, _-_}
 use native.Mathlib.Omega.{arith}
-use mathlib.Core.Path.{sym, _∙_, ap}
+use mathlib.Core.Path.{ap}
 use Rattle.program.proofs.Telling.{stop-of-answer, list-room, text-room, text-listed}
 use borrow.Author.Needs.{needs}
 use Rattle.program.proofs.listed.Statement.{statement}

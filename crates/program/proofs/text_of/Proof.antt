@@ -1,5 +1,4 @@
 -- `program::text_of` meets its contract: the pass's refusal is partition's, and its figures go into the text. Assumes nothing.
-use mathlib.Core.Path.{sym, _∙_}
 use Rattle.program.proofs.Telling.{stop-of-answer, figures-of-answer}
 use borrow.Author.Needs.{needs}
 use Rattle.program.proofs.text_of.Statement.{statement}

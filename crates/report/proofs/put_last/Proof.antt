@@ -1,6 +1,5 @@
 -- `report::put_last` meets its contract: the field, then the end of the line. Assumes nothing.
 use native.Mathlib.Omega.{arith}
-use mathlib.Core.Path.{sym, _∙_}
 use Rattle.report.proofs.Composing.{written-append}
 use borrow.Author.Needs.{needs}
 use Rattle.report.proofs.put_last.Statement.{statement}

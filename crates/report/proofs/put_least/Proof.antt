@@ -1,6 +1,5 @@
 -- `report::put_least` meets its contract: three fields, one after the other. Assumes nothing.
 use native.Mathlib.Omega.{arith}
-use mathlib.Core.Path.{sym, _∙_}
 use Rattle.report.proofs.Composing.{written-append}
 use borrow.Author.Needs.{needs}
 use Rattle.report.proofs.put_least.Statement.{statement}

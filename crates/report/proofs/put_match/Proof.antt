@@ -1,6 +1,5 @@
 -- `report::put_match` meets its contract: the size, then the address. Assumes nothing.
 use native.Mathlib.Omega.{arith}
-use mathlib.Core.Path.{sym, _∙_}
 use Rattle.report.proofs.Composing.{written-append}
 use borrow.Author.Needs.{needs}
 use Rattle.report.proofs.put_match.Statement.{statement}

@@ -1,10 +1,8 @@
 -- `report::put_number` meets its contract: the fewest digits of a number are its decimal text. Assumes nothing.
 use native.Mathlib.Omega.{arith}
-use Prim.Native.Nat.{ℕ, _≤_}
-use mathlib.Core.Path.{_≡_, sym, _∙_, ap}
-use mathlib.Core.List.{List}
+use mathlib.Core.Path.{_≡_, _∙_, ap}
 use lib.ListN.{length, take}
-use Rattle.report.specs.Text.{decimal, Written}
+use Rattle.report.specs.Text.{decimal}
 use Rattle.report.proofs.Numerals.{decimal-of-fewest, length-decimal}
 use borrow.Author.Needs.{needs}
 use Rattle.report.proofs.put_number.Statement.{statement}

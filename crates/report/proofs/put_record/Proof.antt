@@ -1,6 +1,5 @@
 -- `report::put_record` meets its contract, by the two kinds. Assumes nothing.
 use native.Mathlib.Omega.{arith}
-use mathlib.Core.Path.{sym, _∙_}
 use borrow.Author.Needs.{needs}
 use Rattle.report.proofs.put_record.Statement.{statement}
 use Rattle.report.proofs.put_record.Tie as tie

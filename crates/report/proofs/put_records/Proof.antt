@@ -1,8 +1,8 @@
 -- `report::put_records` meets its contract. The invariant: `Listed` says what is written before record i and what is to come, each line of at most
 -- 44 bytes. The measure is the number of records left. Assumes nothing.
-use Prim.Native.Nat.{ℕ, _+_, _*_, _-_, _/_, _≤_, _<_}
+use Prim.Native.Nat.{ℕ, _*_, _-_, _/_, _≤_}
 use native.Mathlib.Omega.{arith}
-use mathlib.Core.Path.{_≡_, refl, sym, _∙_, ap}
+use mathlib.Core.Path.{_≡_, refl, _∙_, ap}
 use mathlib.Core.List.{List}
 use lib.ListN.{length}
 use Rattle.format.specs.Record.{recordOf}

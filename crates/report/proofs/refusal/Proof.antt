@@ -1,6 +1,5 @@
 -- `report::refusal` meets its contract: the number, then the place. Assumes nothing.
 use native.Mathlib.Omega.{arith}
-use mathlib.Core.Path.{sym, _∙_}
 use Rattle.report.proofs.Composing.{written-append}
 use borrow.Author.Needs.{needs}
 use Rattle.report.proofs.refusal.Statement.{statement}
