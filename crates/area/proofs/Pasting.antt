@@ -5,7 +5,7 @@ use native.Mathlib.Omega.{arith}
 use mathlib.Core.Path.{_≡_, sym, _∙_, ap}
 use mathlib.Core.List.{List, [], _++_, append-assoc, append-nil}
 use lib.ListN.{length, take, drop, length-append, length-drop, drop-of-length-le, take-append-drop}
-use lib.Seq.{length-take-le, take-all, take-length, take-take, take-add, take-append-le, take-append-add, drop-append-add, drop-drop}
+use lib.Seq.{length-take-le, take-all, take-at, take-length, take-take, take-add, take-append-le, take-append-add, drop-append-add, drop-drop}
 use borrow.Rule.Slice.PartMut.{putMid}
 use Rattle.area.specs.Area.{pasted}
 
@@ -22,6 +22,10 @@ pub pasted-none : (at : ℕ) (d : List ℕ) → d ≡ pasted at [] d
 pasted-none at d =
     let e : at ≡ at + 0 = omega arith in
     sym (take-append-drop at d) ∙ ap (λ (j : ℕ). take at d ++ drop j d) e ∙ ap (λ (p : List ℕ). p ++ drop (at + 0) d) (sym (append-nil (take at d)))
+
+-- what was copied to the front of a list
+pub copied-front : (src d last : List ℕ) (n : ℕ) → n ≡ length src → last ≡ take (length src) src ++ drop (length src) d → take n last ≡ src
+copied-front src d last n n-is e = rw (e, take-length src) (take-at src (drop (length src) d) n (sym n-is))
 
 pub length-pasted : (at : ℕ) (s d : List ℕ) → at + length s ≤ length d → length (pasted at s d) ≡ length d
 length-pasted at s d h =

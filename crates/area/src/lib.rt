@@ -1,7 +1,7 @@
 // Writing into an area that a caller lends: some bytes over those from a place on, the rest unchanged.
 //
-// Of 16 to 256 bytes, which most records have, the copy goes by blocks of 16, for speed: the compiled loop over single bytes
-// ends in steps of other sizes, and a processor cannot foresee how many of each a record takes.
+// Up to 256 bytes are copied by blocks of 8 or of 32, for speed: the compiled loop over single bytes ends in steps of other sizes,
+// and a processor cannot foresee how many of each there will be.
 ghost use mathlib.Core.Path.{_≡_};
 ghost use Prim.Native.Nat.{_+_, _≤_};
 ghost use lib.ListN.{length};
@@ -15,18 +15,28 @@ fn put_plain(area: &mut [u8], at: usize, src: &[u8])
     bytes::copy(src, &mut area[at..]);
 }
 
-// Copies `src` by blocks of 16; the last 16 bytes are copied whether or not some of them stand there already.
-fn put_blocks(area: &mut [u8], at: usize, src: &[u8])
-    requires { ⌜ (16 ≤ length (now src)) × (at + length (now src) ≤ length (now area)) ⌝ }
+// Copies a block. It is read whole before it is written, so that it can be compiled to loads and then stores.
+fn put_block(area: &mut [u8], at: usize, src: &[u8])
+    requires { ⌜ (length (now src) ≤ 32) × (at + length (now src) ≤ length (now area)) ⌝ }
     ensures { λ _. ⌜ now (area .exit) ≡ pasted at (now (src .entry)) (now (area .entry)) ⌝ }
 {
-    let last = src.len() - 16;
+    let mut block = [0u8; 32];
+    let n = bytes::copy(src, &mut block);
+    put_plain(area, at, &block[..n]);
+}
+
+// Copies `src` by blocks of k; the last k bytes are copied whether or not some of them stand there already.
+fn put_blocks(area: &mut [u8], at: usize, src: &[u8], k: usize)
+    requires { ⌜ (1 ≤ k) × (k ≤ 32) × (k ≤ length (now src)) × (at + length (now src) ≤ length (now area)) ⌝ }
+    ensures { λ _. ⌜ now (area .exit) ≡ pasted at (now (src .entry)) (now (area .entry)) ⌝ }
+{
+    let last = src.len() - k;
     let mut i = 0;
     while i <= last {
-        put_plain(area, at + i, &src[i..i + 16]);
-        i += 16;
+        put_block(area, at + i, &src[i..i + k]);
+        i += k;
     }
-    put_plain(area, at + last, &src[last..]);
+    put_block(area, at + last, &src[last..]);
 }
 
 // Copies `src` over the bytes of `area` from `at` on.
@@ -34,11 +44,14 @@ pub fn put(area: &mut [u8], at: usize, src: &[u8])
     requires { ⌜ at + length (now src) ≤ length (now area) ⌝ }
     ensures { λ _. ⌜ now (area .exit) ≡ pasted at (now (src .entry)) (now (area .entry)) ⌝ }
 {
-    if src.len() < 16 {
+    if src.len() < 8 {
         return put_plain(area, at, src);
     }
-    if 256 < src.len() {
-        return put_plain(area, at, src);
+    if src.len() < 32 {
+        return put_blocks(area, at, src, 8);
     }
-    put_blocks(area, at, src);
+    if src.len() <= 256 {
+        return put_blocks(area, at, src, 32);
+    }
+    put_plain(area, at, src);
 }

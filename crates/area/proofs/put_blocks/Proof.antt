@@ -10,10 +10,10 @@ use Rattle.area.proofs.put_blocks.Statement.{statement}
 use Rattle.area.proofs.put_blocks.Tie as tie
 
 abbrev Inv-loop : tie.InvT-loop
-Inv-loop area₀ at src last i₀ area i = (i ≤ length src) × (length area ≡ length area₀) × (area ≡ pasted at (take i src) area₀)
+Inv-loop area₀ at src k last i₀ area i = (i ≤ length src) × (length area ≡ length area₀) × (area ≡ pasted at (take i src) area₀)
 
 abbrev μ-loop : tie.MeasureT-loop
-μ-loop area₀ at src last i₀ area i = length src - i
+μ-loop area₀ at src k last i₀ area i = length src - i
 
 sub-last : tie.Need-sub-last Inv-loop μ-loop
 sub-last c = search needs
@@ -21,23 +21,23 @@ sub-last c = search needs
 loop-holds : tie.Need-loop-holds Inv-loop μ-loop
 loop-holds c = (omega arith, refl, pasted-none (c .before .before .args .at) (c .before .before .args .area .now))
 
-add-put-plain : tie.Need-add-put-plain Inv-loop μ-loop
-add-put-plain c = search needs
+add-put-block : tie.Need-add-put-block Inv-loop μ-loop
+add-put-block c = search needs
 
-add-put-plain-2 : tie.Need-add-put-plain-2 Inv-loop μ-loop
-add-put-plain-2 c = search needs
+add-put-block-2 : tie.Need-add-put-block-2 Inv-loop μ-loop
+add-put-block-2 c = search needs
 
-sub-put-plain : tie.Need-sub-put-plain Inv-loop μ-loop
-sub-put-plain c = search needs
+sub-put-block : tie.Need-sub-put-block Inv-loop μ-loop
+sub-put-block c = search needs
 
-part-put-plain-start : tie.Need-part-put-plain-start Inv-loop μ-loop
-part-put-plain-start c = search needs
+part-put-block-start : tie.Need-part-put-block-start Inv-loop μ-loop
+part-put-block-start c = search needs
 
-part-put-plain-end : tie.Need-part-put-plain-end Inv-loop μ-loop
-part-put-plain-end c = search needs
+part-put-block-end : tie.Need-part-put-block-end Inv-loop μ-loop
+part-put-block-end c = search needs
 
-put-plain-requires : tie.Need-put-plain-requires Inv-loop μ-loop
-put-plain-requires c κs = search needs
+put-block-requires : tie.Need-put-block-requires Inv-loop μ-loop
+put-block-requires c κs = search needs
 
 add-i : tie.Need-add-i Inv-loop μ-loop
 add-i c = search needs
@@ -49,22 +49,22 @@ loop-again : tie.Need-loop-again Inv-loop μ-loop
 loop-again c =
     let g = c .before .before .before .before .before .before .before .before .before .args in
     let l = c .before .before .before .before .before .before .loop in
-    (omega arith, omega arith, pasted-next (g .at) (l .i) (g .src .now) (g .area .now) (l .area) (omega arith) (l .inv .0) (l .inv .2) (l .i + 16 - l .i) (l .i + 16) _ (omega arith) (omega arith) (c .before .before .put-plain .ensures))
+    (omega arith, omega arith, pasted-next (g .at) (l .i) (g .src .now) (g .area .now) (l .area) (omega arith) (l .inv .0) (l .inv .2) (l .i + g .k - l .i) (l .i + g .k) _ (omega arith) (omega arith) (c .before .before .put-block .ensures))
 
-add-put-plain-3 : tie.Need-add-put-plain-3 Inv-loop μ-loop
-add-put-plain-3 c = search needs
+add-put-block-3 : tie.Need-add-put-block-3 Inv-loop μ-loop
+add-put-block-3 c = search needs
 
-sub-put-plain-2 : tie.Need-sub-put-plain-2 Inv-loop μ-loop
-sub-put-plain-2 c = search needs
+sub-put-block-2 : tie.Need-sub-put-block-2 Inv-loop μ-loop
+sub-put-block-2 c = search needs
 
-part-put-plain-start-2 : tie.Need-part-put-plain-start-2 Inv-loop μ-loop
-part-put-plain-start-2 c = search needs
+part-put-block-start-2 : tie.Need-part-put-block-start-2 Inv-loop μ-loop
+part-put-block-start-2 c = search needs
 
-part-put-plain-end-2 : tie.Need-part-put-plain-end-2 Inv-loop μ-loop
-part-put-plain-end-2 c = search needs
+part-put-block-end-2 : tie.Need-part-put-block-end-2 Inv-loop μ-loop
+part-put-block-end-2 c = search needs
 
-put-plain-requires-2 : tie.Need-put-plain-requires-2 Inv-loop μ-loop
-put-plain-requires-2 c κs = search needs
+put-block-requires-2 : tie.Need-put-block-requires-2 Inv-loop μ-loop
+put-block-requires-2 c κs = search needs
 
 same-length : tie.Need-same-length Inv-loop μ-loop
 same-length c = search needs
@@ -73,7 +73,7 @@ returns : tie.Need-returns Inv-loop μ-loop
 returns c =
     let g = c .before .before .before .before .before .before .before .before .before .args in
     let l = c .before .before .before .before .before .before .loop in
-    pasted-last (g .at) (l .i) (g .src .now) (g .area .now) (l .area) (omega arith) (l .inv .0) (l .inv .2) (length (g .src .now) - (length (g .src .now) - 16)) (length (g .src .now) - 16) _ (omega arith) (omega arith) (c .before .before .put-plain2 .ensures)
+    pasted-last (g .at) (l .i) (g .src .now) (g .area .now) (l .area) (omega arith) (l .inv .0) (l .inv .2) (length (g .src .now) - (length (g .src .now) - g .k)) (length (g .src .now) - g .k) _ (omega arith) (omega arith) (c .before .before .put-block2 .ensures)
 
 pub put-blocks-spec : {M : Type 1} → statement M
 put-blocks-spec =
@@ -83,19 +83,19 @@ put-blocks-spec =
     μ-loop
     sub-last
     loop-holds
-    add-put-plain
-    add-put-plain-2
-    sub-put-plain
-    part-put-plain-start
-    part-put-plain-end
-    put-plain-requires
+    add-put-block
+    add-put-block-2
+    sub-put-block
+    part-put-block-start
+    part-put-block-end
+    put-block-requires
     add-i
     loop-less
     loop-again
-    add-put-plain-3
-    sub-put-plain-2
-    part-put-plain-start-2
-    part-put-plain-end-2
-    put-plain-requires-2
+    add-put-block-3
+    sub-put-block-2
+    part-put-block-start-2
+    part-put-block-end-2
+    put-block-requires-2
     same-length
     returns)
