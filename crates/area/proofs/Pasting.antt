@@ -49,6 +49,11 @@ pasted-again at j s t d h k l =
     ap (λ (x : ℕ). drop x ((p ++ s) ++ q)) beyond ∙ drop-append-add (p ++ s) q m ∙ drop-drop m (at + length s) d ∙ ap (λ (x : ℕ). drop x d) ends in
     rw (head, tail, append-assoc p (take j s) t)
 
+-- t right after s
+pub pasted-append : (at : ℕ) (s t d : List ℕ) → at ≤ length d → pasted (at + length s) t (pasted at s d) ≡ pasted at (s ++ t) d
+pasted-append at s t d h =
+    pasted-again at (length s) s t d h (omega arith) (omega arith) ∙ ap (λ (p : List ℕ). pasted at (p ++ t) d) (take-length s)
+
 -- of src, the first i bytes stand in the area; n more are put
 module _ (at i : ℕ) (src d area : List ℕ) (h : at ≤ length d) (within : i ≤ length src) (so-far : area ≡ pasted at (take i src) d) (n : ℕ) where
   -- the next ones

@@ -1,6 +1,6 @@
 // Writing into an area that a caller lends: some bytes over those from a place on, the rest unchanged.
 //
-// Up to 256 bytes are copied by blocks of 8 or of 32, for speed: the compiled loop over single bytes ends in steps of other sizes,
+// 8 to 256 bytes are copied by blocks of 8 or of 32, for speed: the compiled loop over single bytes ends in steps of other sizes,
 // and a processor cannot foresee how many of each there will be.
 ghost use mathlib.Core.Path.{_≡_};
 ghost use Prim.Native.Nat.{_+_, _≤_};

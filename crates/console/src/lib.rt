@@ -2,7 +2,7 @@
 //
 // A file that is missing, cannot be read or is longer than its buffer is bad, and so is a price not of 4 bytes.
 // The text of a run is made by the crate `program`, that of a bad file by `report`; only the reading and writing are here.
-ghost use Prim.Native.Nat.{_+_, _*_};
+ghost use Prim.Native.Nat.{_+_, _*_, _≤_};
 ghost use mathlib.Core.Path.{_≡_};
 ghost use lib.ListN.{length};
 ghost use Rattle.io.specs.Counts.{Counts};
@@ -77,17 +77,17 @@ pub fn text_area() -> [u8; 262144]
 }
 
 // Writes out the first n bytes of a text.
-pub fn write(text: &[u8], n: usize) {
-    if n <= text.len() {
-        io::write_all(libc::STDOUT_FILENO, &text[0..n]);
-    }
+pub fn write(text: &[u8], n: usize)
+    requires { ⌜ n ≤ length (now text) ⌝ }
+{
+    io::write_all(libc::STDOUT_FILENO, &text[0..n]);
 }
 
 // Writes out the name of a bad file.
-pub fn bad_file(name: &[u8]) {
+pub fn bad_file(name: &[u8])
+    requires { ⌜ length (now name) ≤ 64 ⌝ }
+{
     let mut text = [0u8; 256];
-    if name.len() < 64 {
-        let n = report::bad_file(&mut text, name);
-        write(&text, n);
-    }
+    let n = report::bad_file(&mut text, name);
+    write(&text, n);
 }

@@ -2,25 +2,20 @@
 -- Assumes nothing.
 use Prim.Native.Nat.{ℕ, _+_, _/_, _≤_, _<_}
 use native.Mathlib.Omega.{arith}
-use native.Mathlib.Nat.{add-assoc}
 use mathlib.Core.Path.{_≡_, refl, sym, _∙_, ap}
 use mathlib.Core.List.{List, [], _∷_, _++_, append-assoc, append-nil}
 use lib.ListN.{length, take, drop, length-append}
-use lib.Seq.{length-take-le, take-at, drop-append-add, drop-drop}
+use lib.Seq.{length-take-le}
 use Rattle.format.specs.declared.Record.{Record}
 use Rattle.format.specs.Record.{rowAt, recordOf, recordsOf}
 use Rattle.format.proofs.Rows.{recordsFrom, recordsFrom-next, recordsFrom-none, recordsFrom-all}
-use Rattle.area.specs.Area.{pasted}
-use Rattle.area.proofs.Pasting.{pasted-none}
+use Rattle.area.proofs.Pasting.{pasted-none, pasted-append}
 use Rattle.report.specs.Text.{recordText, recordsText, Written}
 
-pub pasted-append : (at : ℕ) (s t d : List ℕ) → at ≤ length d → pasted (at + length s) t (pasted at s d) ≡ pasted at (s ++ t) d
-pasted-append at s t d h =
-    let head : length (take at d ++ s) ≡ at + length s = length-append (take at d) s ∙ ap (λ (n : ℕ). n + length s) (length-take-le at d h) in
-    let front : take (at + length s) ((take at d ++ s) ++ drop (at + length s) d) ≡ take at d ++ s = take-at (take at d ++ s) (drop (at + length s) d) (at + length s) head in
-    let back : drop (at + length s + length t) ((take at d ++ s) ++ drop (at + length s) d) ≡ drop (length t) (drop (at + length s) d) =
-    ap (λ (n : ℕ). drop (n + length t) ((take at d ++ s) ++ drop (at + length s) d)) (sym head) ∙ drop-append-add (take at d ++ s) (drop (at + length s) d) (length t) in
-    rw (front, back, drop-drop (length t) (at + length s) d, append-assoc (take at d) s t, length-append s t, ← add-assoc at (length s) (length t))
+-- in an area that keeps its length, a text ends within it
+pub written-within : {at r : ℕ} {s area after : List ℕ} → Written at s area r after → at ≤ length area → length after ≡ length area → r ≤ length after
+written-within {at} {r} {s} {area} {after} w h same =
+    omega (arith, w .place, same, ap length (w .area-after) ∙ length-append (take at area ++ s) (drop (at + length s) area), length-append (take at area) s, length-take-le at area h)
 
 pub written-append : {at r r′ : ℕ} {s t area mid after : List ℕ} → at ≤ length area → Written at s area r mid → Written r t mid r′ after → Written at (s ++ t) area r′ after
 written-append {at} {r} {r′} {s} {t} {area} {mid} {after} h w x =
