@@ -120,12 +120,12 @@ pub fn put(list: &mut [u8], from: usize, kind: u8, bytes: u8, address: u8) {
     copy(&row, list, from);
 }
 
-// Copies `from` over the bytes of `to` from `start` on, as far as there is room.
+// Copies `from` over the bytes of `to` from `start` on, if there is room.
 pub fn copy(from: &[u8], to: &mut [u8], start: usize) {
-    let mut i = 0;
-    while i < from.len() {
-        set(to, plus(start, i), from[i]);
-        i += 1;
+    if start <= to.len() {
+        if from.len() <= to.len() - start {
+            bytes::copy(from, &mut to[start..]);
+        }
     }
 }
 
