@@ -4,6 +4,10 @@
 // the pattern beyond.
 pub mod text;
 
+ghost use mathlib.Core.Path.{_≡_};
+ghost use mathlib.Core.Bool.{true};
+ghost use lib.ListN.{length, take};
+ghost use Rattle.watch.specs.Values.{valuesOf};
 use format::Answer;
 
 // An answer, as numbers: 0 where it gives none.
@@ -29,7 +33,9 @@ pub fn accepted(cost: u64, entries: u32, stored: u32, whole: u32) -> Values {
     }
 }
 
-pub fn refused(number: u32, place: u32) -> Values {
+pub fn refused(number: u32, place: u32) -> Values
+    ensures { λ r. ⌜ r ≡ record { number = number; place = place; cost = 0; entries = 0; stored = 0; looks = 0; whole = 0 } ⌝ }
+{
     Values {
         number,
         place,
@@ -41,7 +47,9 @@ pub fn refused(number: u32, place: u32) -> Values {
     }
 }
 
-fn values_of(answer: Answer) -> Values {
+fn values_of(answer: Answer) -> Values
+    ensures { λ r. ⌜ r ≡ valuesOf answer ⌝ }
+{
     match answer {
         Answer::Accepted(figures) => Values {
             number: 0,
@@ -59,7 +67,10 @@ fn values_of(answer: Answer) -> Values {
     }
 }
 
-fn same_values(a: Values, b: Values) -> bool {
+// Whether two answers are the same; true only where they are.
+fn same_values(a: Values, b: Values) -> bool
+    ensures { λ r. ⌜ (r ≡ true → a ≡ b) ⌝ }
+{
     if a.number != b.number {
         return false;
     }
@@ -105,8 +116,10 @@ fn say_values(v: Values) {
     say_number(b" whole ", v.whole as u64);
 }
 
-// Whether an answer is the one expected; says what was got where it is not.
-pub fn answer_is(got: Answer, want: Values) -> bool {
+// Whether an answer is the one expected, true only where it is; says what was got where it is not.
+pub fn answer_is(got: Answer, want: Values) -> bool
+    ensures { λ r. ⌜ (r ≡ true → valuesOf got ≡ want) ⌝ }
+{
     let values = values_of(got);
     if same_values(values, want) {
         return true;
@@ -148,9 +161,12 @@ fn first_wrong(area: &[u8], front: &[u8]) -> usize {
     i
 }
 
-// Whether an area holds `front` and then the pattern; says where it does not.
-pub fn area_holds(name: &[u8], area: &[u8], front: &[u8]) -> bool {
-    if area.len() < front.len() {
+// Whether an area holds `front`, true only where it does, and then the pattern; says where it does not.
+pub fn area_holds(name: &[u8], area: &[u8], front: &[u8]) -> bool
+    ensures { λ r. ⌜ (r ≡ true → take (length (now (front .entry))) (now (area .entry)) ≡ now (front .entry)) ⌝ }
+{
+    let n = front.len();
+    if area.len() < n {
         say(b" WRONG no room for ");
         say(name);
         return false;
@@ -163,11 +179,13 @@ pub fn area_holds(name: &[u8], area: &[u8], front: &[u8]) -> bool {
         say_number(b" holds ", wide(area[i]));
         return false;
     }
-    true
+    check::same(&area[0..n], front)
 }
 
-// Whether a part that was lent back has these bytes and no others; says how it differs where it has not.
-pub fn part_is(part: &[u8], want: &[u8]) -> bool {
+// Whether a part that was lent back has these bytes and no others, true only where it has; says how it differs where it has not.
+pub fn part_is(part: &[u8], want: &[u8]) -> bool
+    ensures { λ r. ⌜ (r ≡ true → now (part .entry) ≡ now (want .entry)) ⌝ }
+{
     if part.len() != want.len() {
         say_number(b" WRONG length ", part.len() as u64);
         return false;
@@ -178,7 +196,7 @@ pub fn part_is(part: &[u8], want: &[u8]) -> bool {
         say_number(b" holds ", wide(part[i]));
         return false;
     }
-    true
+    check::same(part, want)
 }
 
 pub fn end_line(fine: bool) {
