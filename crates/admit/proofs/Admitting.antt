@@ -2,7 +2,7 @@
 -- Assumes nothing.
 use Prim.Native.Nat.{ℕ, _*_, _/_, _≤_}
 use native.Mathlib.Omega.{arith}
-use mathlib.Core.Path.{_≡_, refl, _∙_, ap}
+use mathlib.Core.Path.{_≡_, _∙_, ap}
 use mathlib.Core.Bool.{true, false, _&&_}
 use mathlib.Core.List.{List}
 use lib.Dec.{eqb, leb}
@@ -26,84 +26,37 @@ use Rattle.walk.specs.declared.Scope.the-variants as scope
 use Rattle.walk.specs.Checks.{checks, walkRuling, front}
 use Rattle.walk.proofs.Accepted.{each-of-fine, sized-of-four, apart-of-five, agrees-of-eight}
 use Rattle.walk.proofs.Written.{walk-encode}
+use Rattle.area.specs.Area.{Areas}
 use Rattle.price.specs.Price.{priceFits}
-use Rattle.price.specs.declared.DiskBytes.{DiskBytes}
-use Rattle.admit.specs.declared.Admitted.the-variants.{At, Stopped}
-use Rattle.admit.specs.Admit.{lengthsFit, areasFit, admitRuling, admitted}
+use Rattle.admit.specs.Admit.{lengthsFit, areasFit, admitRuling, callRuling, partitionRuling, findings, LongEnough}
 
-module _ (e f : ℕ) (list v st : List ℕ) (c a b : ℕ) where
-  pub admit-price : priceFits e f ≡ false → admitRuling e f list v st c a b ≡ Stop (refuse Price 0)
-  admit-price h = rw h
+module _ (list v st : List ℕ) (c a b : ℕ) where
+  pub admit-lengths : lengthsFit v st ≡ false → admitRuling list v st c a b ≡ Stop (refuse TooLong 0)
+  admit-lengths k = rw k
 
-  module _ (h : priceFits e f ≡ true) where
-    pub admit-lengths : lengthsFit v st ≡ false → admitRuling e f list v st c a b ≡ Stop (refuse TooLong 0)
-    admit-lengths k = rw (h, k)
+  module _ (k : lengthsFit v st ≡ true) where
+    pub admit-list : listFits list ≡ false → admitRuling list v st c a b ≡ Stop (refuse ListLength 0)
+    admit-list l = rw (k, l)
 
-    module _ (k : lengthsFit v st ≡ true) where
-      pub admit-list : listFits list ≡ false → admitRuling e f list v st c a b ≡ Stop (refuse ListLength 0)
-      admit-list l = rw (h, k, l)
+    module _ (l : listFits list ≡ true) where
+      pub admit-areas : areasFit list v c a b ≡ false → admitRuling list v st c a b ≡ Stop (refuse AreaTooShort 0)
+      admit-areas m = rw (k, l, m)
 
-      module _ (l : listFits list ≡ true) where
-        pub admit-areas : areasFit list v c a b ≡ false → admitRuling e f list v st c a b ≡ Stop (refuse AreaTooShort 0)
-        admit-areas m = rw (h, k, l, m)
+      module _ (m : areasFit list v c a b ≡ true) where
+        pub admit-walk : (x : Refusal) → walkRuling (checks scope.Version v st) list ≡ Stop x → admitRuling list v st c a b ≡ Stop x
+        admit-walk x w = rw (k, l, m, w)
 
-        module _ (m : areasFit list v c a b ≡ true) where
-          pub admit-walk : (x : Refusal) → walkRuling (checks scope.Version v st) list ≡ Stop x → admitRuling e f list v st c a b ≡ Stop x
-          admit-walk x w = rw (h, k, l, m, w)
+        module _ (w : walkRuling (checks scope.Version v st) list ≡ Fine) where
+          pub admit-short : (whole (recordsOf list) ≡ length v → ⊥) → admitRuling list v st c a b ≡ Stop (refuse Sizes (length (recordsOf list)))
+          admit-short n = rw (k, l, m, w, ne-eqb (whole (recordsOf list)) (length v) n)
 
-          module _ (w : walkRuling (checks scope.Version v st) list ≡ Fine) where
-            pub admit-short : (whole (recordsOf list) ≡ length v → ⊥) → admitRuling e f list v st c a b ≡ Stop (refuse Sizes (length (recordsOf list)))
-            admit-short n = rw (h, k, l, m, w, ne-eqb (whole (recordsOf list)) (length v) n)
-
-            pub admit-fine : whole (recordsOf list) ≡ length v → admitRuling e f list v st c a b ≡ Fine
-            admit-fine n = rw (h, k, l, m, w, eq-eqb (whole (recordsOf list)) (length v) n)
+          pub admit-fine : whole (recordsOf list) ≡ length v → admitRuling list v st c a b ≡ Fine
+          admit-fine n = rw (k, l, m, w, eq-eqb (whole (recordsOf list)) (length v) n)
 
 pub lengths-most : (v st : List ℕ) → lengthsFit v st ≡ true → (length v ≤ versionMost) × (length st ≤ storeMost)
 lengths-most v st h = let k = both-of-and (leb (length v) versionMost) (leb (length st) storeMost) h in (leb-true (length v) versionMost (k .0), leb-true (length st) storeMost (k .1))
 
--- what admitted inputs have
-pub record Sound (e f : ℕ) (list v st : List ℕ) (c a b : ℕ) : Type 0 where
-  pub price-fits : priceFits e f ≡ true
-  pub lengths-fit : lengthsFit v st ≡ true
-  pub version-most : length v ≤ versionMost
-  pub counted : Counted list
-  pub in-choice : length list / 12 ≤ c
-  pub in-area : length list ≤ a
-  pub in-block : length v ≤ b
-  pub whole-is : whole (recordsOf list) ≡ length v
-  pub well-formed : WellFormed st (recordsOf list) v
-
--- each check of admitted inputs, in their order
-record Passed (e f : ℕ) (list v st : List ℕ) (c a b : ℕ) : Type 0 where
-  price : priceFits e f ≡ true
-  lengths : lengthsFit v st ≡ true
-  counts : listFits list ≡ true
-  areas : areasFit list v c a b ≡ true
-  walked : walkRuling (checks scope.Version v st) list ≡ Fine
-  ends : whole (recordsOf list) ≡ length v
-
-passed-of-fine : (e f : ℕ) (list v st : List ℕ) (c a b : ℕ) → admitRuling e f list v st c a b ≡ Fine → Passed e f list v st c a b
-passed-of-fine e f list v st c a b h =
-    let last : Ruling = need (eqb (whole (recordsOf list)) (length v)) Sizes (length (recordsOf list)) in
-    let walk : Ruling = walkRuling (checks scope.Version v st) list in
-    let nine : Ruling = need (areasFit list v c a b) AreaTooShort 0 in
-    let three : Ruling = need (listFits list) ListLength 0 in
-    let two : Ruling = need (lengthsFit v st) TooLong 0 in
-    let h₁ = fine-of-then (need (priceFits e f) Price 0) (two then three then nine then walk then last) h in
-    let h₂ = fine-of-then two (three then nine then walk then last) (h₁ .1) in
-    let h₃ = fine-of-then three (nine then walk then last) (h₂ .1) in
-    let h₄ = fine-of-then nine (walk then last) (h₃ .1) in
-    let h₅ = fine-of-then walk last (h₄ .1) in
-    record {
-      price = true-of-need (priceFits e f) Price 0 (h₁ .0);
-      lengths = true-of-need (lengthsFit v st) TooLong 0 (h₂ .0);
-      counts = true-of-need (listFits list) ListLength 0 (h₃ .0);
-      areas = true-of-need (areasFit list v c a b) AreaTooShort 0 (h₄ .0);
-      walked = h₅ .0;
-      ends = eqb-true (whole (recordsOf list)) (length v) (true-of-need (eqb (whole (recordsOf list)) (length v)) Sizes (length (recordsOf list)) (h₅ .1));
-    }
-
-areas-most : (list v : List ℕ) (c a b : ℕ) → areasFit list v c a b ≡ true → (length list / 12 ≤ c) × (length list ≤ a) × (length v ≤ b)
+pub areas-most : (list v : List ℕ) (c a b : ℕ) → areasFit list v c a b ≡ true → (length list / 12 ≤ c) × (length list ≤ a) × (length v ≤ b)
 areas-most list v c a b h =
     let k = both-of-and (leb (length list / 12) c && leb (length list) a) (leb (length v) b) h in
     let l = both-of-and (leb (length list / 12) c) (leb (length list) a) (k .0) in
@@ -114,15 +67,54 @@ areas-of-most list v c a b i j k =
     and-of-both (leb (length list / 12) c && leb (length list) a) (leb (length v) b)
     (and-of-both (leb (length list / 12) c) (leb (length list) a) (le-leb (length list / 12) c i) (le-leb (length list) a j)) (le-leb (length v) b k)
 
-pub sound-of-fine : (e f : ℕ) (list v st : List ℕ) (c a b : ℕ) → admitRuling e f list v st c a b ≡ Fine → Sound e f list v st c a b
-sound-of-fine e f list v st c a b h =
-    let p = passed-of-fine e f list v st c a b h in
+-- what admitted inputs have
+pub record Sound (list v st : List ℕ) (c a b : ℕ) : Type 0 where
+  pub lengths-fit : lengthsFit v st ≡ true
+  pub version-most : length v ≤ versionMost
+  pub store-most : length st ≤ storeMost
+  pub counted : Counted list
+  pub in-choice : length list / 12 ≤ c
+  pub in-area : length list ≤ a
+  pub in-block : length v ≤ b
+  pub whole-is : whole (recordsOf list) ≡ length v
+  pub well-formed : WellFormed st (recordsOf list) v
+
+-- each check of admitted inputs, in their order
+record Passed (list v st : List ℕ) (c a b : ℕ) : Type 0 where
+  lengths : lengthsFit v st ≡ true
+  counts : listFits list ≡ true
+  areas : areasFit list v c a b ≡ true
+  walked : walkRuling (checks scope.Version v st) list ≡ Fine
+  ends : whole (recordsOf list) ≡ length v
+
+passed-of-fine : (list v st : List ℕ) (c a b : ℕ) → admitRuling list v st c a b ≡ Fine → Passed list v st c a b
+passed-of-fine list v st c a b h =
+    let last : Ruling = need (eqb (whole (recordsOf list)) (length v)) Sizes (length (recordsOf list)) in
+    let walk : Ruling = walkRuling (checks scope.Version v st) list in
+    let nine : Ruling = need (areasFit list v c a b) AreaTooShort 0 in
+    let three : Ruling = need (listFits list) ListLength 0 in
+    let h₂ = fine-of-then (need (lengthsFit v st) TooLong 0) (three then nine then walk then last) h in
+    let h₃ = fine-of-then three (nine then walk then last) (h₂ .1) in
+    let h₄ = fine-of-then nine (walk then last) (h₃ .1) in
+    let h₅ = fine-of-then walk last (h₄ .1) in
+    record {
+      lengths = true-of-need (lengthsFit v st) TooLong 0 (h₂ .0);
+      counts = true-of-need (listFits list) ListLength 0 (h₃ .0);
+      areas = true-of-need (areasFit list v c a b) AreaTooShort 0 (h₄ .0);
+      walked = h₅ .0;
+      ends = eqb-true (whole (recordsOf list)) (length v) (true-of-need (eqb (whole (recordsOf list)) (length v)) Sizes (length (recordsOf list)) (h₅ .1));
+    }
+
+pub sound-of-fine : (list v st : List ℕ) (c a b : ℕ) → admitRuling list v st c a b ≡ Fine → Sound list v st c a b
+sound-of-fine list v st c a b h =
+    let p = passed-of-fine list v st c a b h in
+    let l = lengths-most v st (p .lengths) in
     let m = areas-most list v c a b (p .areas) in
     let each = each-of-fine (checks scope.Version v st) front (rowsOf list) (p .walked) in
     record {
-      price-fits = p .price;
       lengths-fit = p .lengths;
-      version-most = lengths-most v st (p .lengths) .0;
+      version-most = l .0;
+      store-most = l .1;
       counted = counted-of-fits list (p .counts);
       in-choice = m .0;
       in-area = m .1;
@@ -135,40 +127,18 @@ sound-of-fine e f list v st c a b h =
       };
     }
 
--- inputs that are admitted with some areas are admitted with longer ones
-pub fine-of-longer : (e f : ℕ) (list v st : List ℕ) (c a b c′ a′ b′ : ℕ) → admitRuling e f list v st c a b ≡ Fine → c ≤ c′ → a ≤ a′ → b ≤ b′ → admitRuling e f list v st c′ a′ b′ ≡ Fine
-fine-of-longer e f list v st c a b c′ a′ b′ h i j k =
-    let p = passed-of-fine e f list v st c a b h in
-    let m = areas-most list v c a b (p .areas) in
-    admit-fine e f list v st c′ a′ b′ (p .price) (p .lengths) (p .counts) (areas-of-most list v c′ a′ b′ (omega (arith, m .0)) (omega (arith, m .1)) (omega (arith, m .2))) (p .walked) (p .ends)
+-- the price fits, and the inputs are admitted
+pub admitted-of-fine : (e f : ℕ) (list v st : List ℕ) (c a b : ℕ) → callRuling e f list v st c a b ≡ Fine → (priceFits e f ≡ true) × (admitRuling list v st c a b ≡ Fine)
+admitted-of-fine e f list v st c a b h =
+    let k = fine-of-then (need (priceFits e f) Price 0) (admitRuling list v st c a b) h in
+    (true-of-need (priceFits e f) Price 0 (k .0), k .1)
 
 -- in areas that are long enough, their lengths do not matter
-pub ruling-of-long : (e f : ℕ) (list v st : List ℕ) (c a b c′ a′ b′ : ℕ) → areasFit list v c a b ≡ true → areasFit list v c′ a′ b′ ≡ true
-    → admitRuling e f list v st c a b ≡ admitRuling e f list v st c′ a′ b′
-ruling-of-long e f list v st c a b c′ a′ b′ h k = rw (h, k)
+pub findings-of-long : (e f : ℕ) (list v st : List ℕ) (x : Areas) → LongEnough list v x → partitionRuling e f list v st x ≡ findings e f list v st
+findings-of-long e f list v st x h = rw (h, areas-of-most list v (length list / 12) (length list) (length v) (omega arith) (omega arith) (omega arith))
 
 -- a written list that is well formed is admitted where price, lengths and areas are
-pub fine-of-written : (e f : ℕ) (l : List Record) (v st : List ℕ) (c a b : ℕ) → priceFits e f ≡ true → lengthsFit v st ≡ true → length l ≤ 4096
-    → length l ≤ c → 12 * length l ≤ a → length v ≤ b → WellFormed st l v → admitRuling e f (encode l) v st c a b ≡ Fine
-fine-of-written e f l v st c a b h k n p q r w =
-    admit-fine e f (encode l) v st c a b h k
-    (fits-encode l n)
-    (areas-of-most (encode l) v c a b (omega (arith, len)) (omega (arith, len)) r)
-    (walk-encode v st l w)
-    (ap whole (records-encode l) ∙ whole-agrees st l v (w .agrees))
-  where
-    len : length (encode l) ≡ 12 * length l
-    len = length-encode l
-
--- ---- what an answer tells
-
-pub fine-of-at : (q : Ruling) (p : ℕ) (d : DiskBytes) → admitted q p ≡ At d → (q ≡ Fine) × (d .0 ≡ p)
-fine-of-at Fine p d e = (refl, let m : d ≡ record { 0 = p } = cc in ap (λ (x : DiskBytes). x .0) m)
-fine-of-at (Stop r) p d e = absurd (let z : _≡_ {A = ℕ} 0 1 = cc in omega arith)
-
-pub stop-of-stopped : (q : Ruling) (p : ℕ) (x : Refusal) → admitted q p ≡ Stopped x → q ≡ Stop x
-stop-of-stopped Fine p x e = absurd (let z : _≡_ {A = ℕ} 0 1 = cc in omega arith)
-stop-of-stopped (Stop y) p x e = cc
-
-pub store-most : (e f : ℕ) (list v st : List ℕ) (c a b : ℕ) → Sound e f list v st c a b → length st ≤ storeMost
-store-most e f list v st c a b s = lengths-most v st (s .lengths-fit) .1
+pub fine-of-written : (l : List Record) (v st : List ℕ) (c a b : ℕ) → lengthsFit v st ≡ true → length l ≤ 4096
+    → areasFit (encode l) v c a b ≡ true → WellFormed st l v → admitRuling (encode l) v st c a b ≡ Fine
+fine-of-written l v st c a b k n m w =
+    admit-fine (encode l) v st c a b k (fits-encode l n) m (walk-encode v st l w) (ap whole (records-encode l) ∙ whole-agrees st l v (w .agrees))

@@ -45,7 +45,17 @@ abbrev pub answer : Ruling → Figures → Answer
 answer Fine x = Accepted x
 answer (Stop r) x = Refused r
 
--- what a call writes over an area: nothing where it is refused
+-- the call is accepted
+abbrev pub Accepts : Answer → Type 0
+Accepts (Accepted x) = Unit {0}
+Accepts (Refused r) = ⊥
+
+-- the figures of an answer, all 0 where the call is refused
+abbrev pub figuresIn : Answer → Figures
+figuresIn (Accepted x) = x
+figuresIn (Refused r) = record { cost = 0; entries = 0; stored = 0; looks = 0; whole = 0 }
+
+-- what a call leaves of its areas: where it is refused, what they held
 abbrev pub written : {A : Type 0} → Ruling → A → A → A
-written Fine x y = x
-written (Stop r) x y = y
+written Fine after before = after
+written (Stop r) after before = before

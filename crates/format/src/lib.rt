@@ -5,7 +5,7 @@
 ghost use mathlib.Core.Path.{_≡_};
 ghost use Prim.Native.Nat.{_+_, _*_, _≤_, _<_};
 ghost use lib.ListN.{length};
-ghost use Rattle.format.specs.Refusal.{number, refuse};
+ghost use Rattle.format.specs.Refusal.{number, refuse, figuresIn};
 ghost use Rattle.format.specs.Record.{wordAt, rowAt, recordOf, wellFormed, listFits};
 
 // What is at fault, in the order of the numbers 1 to 11 (`number`).
@@ -89,6 +89,22 @@ pub fn refused(fault: Fault) -> Answer
     ensures { λ r. ⌜ r ≡ Answer.Refused (refuse fault 0) ⌝ }
 {
     Answer::Refused(Refusal { fault, place: 0 })
+}
+
+// The figures of an answer, all 0 where the call is refused.
+pub fn figures_of(answer: Answer) -> Figures
+    ensures { λ r. ⌜ r ≡ figuresIn answer ⌝ }
+{
+    let Answer::Accepted(figures) = answer else {
+        return Figures {
+            cost: 0,
+            entries: 0,
+            stored: 0,
+            looks: 0,
+            whole: 0,
+        };
+    };
+    figures
 }
 
 // A byte as a wider number.

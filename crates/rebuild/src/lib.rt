@@ -8,21 +8,14 @@ ghost use lib.ListN.{length, take};
 ghost use Rattle.format.specs.Meaning.{stored, partOf};
 ghost use Rattle.format.specs.Record.{recordsOf};
 ghost use Rattle.walk.specs.Walked.{walked};
-ghost use Rattle.rebuild.specs.Rebuild.{inputsRuling, checked, Rebuilt, Ready, filled};
+ghost use Rattle.rebuild.specs.Rebuild.{inputsRuling, checkRuling, checked, Rebuilt, Ready, filled};
 ghost use Rattle.rebuild.specs.Show.{whereOf, lent, Lies, shown};
 use format::Answer;
 use format::Fault;
 use format::Figures;
 use format::Record;
-use format::Refusal;
 use walk::Scope;
 use walk::Walked;
-
-fn stopped(fault: Fault) -> Walked
-    ensures { λ r. ⌜ r ≡ Walked.Stopped (record { fault = fault; place = 0 }) ⌝ }
-{
-    Walked::Stopped(Refusal { fault, place: 0 })
-}
 
 // What an accepted call answers that gives the whole length, or nothing but that.
 fn accepted(whole: u32) -> Answer
@@ -42,17 +35,31 @@ pub fn accept(list: &[u8], block: &[u8], store: &[u8]) -> Walked
     ensures { λ r. ⌜ r ≡ walked (inputsRuling (now (list .entry)) (now (block .entry)) (now (store .entry))) (recordsOf (now (list .entry))) ⌝ }
 {
     if 268435456 < store.len() {
-        return stopped(Fault::TooLong);
+        return walk::stopped(Fault::TooLong, 0);
     }
     if !format::list_fits(list) {
-        return stopped(Fault::ListLength);
+        return walk::stopped(Fault::ListLength, 0);
     }
     let w = walk::walk(list, &list[0..0], store, Scope::Store);
     let Walked::Through(t) = w else {
         return w;
     };
     if block.len() != format::index(t.stored) {
-        return stopped(Fault::BlockLength);
+        return walk::stopped(Fault::BlockLength, 0);
+    }
+    w
+}
+
+// The same and then 11: whether there is a record k.
+fn accept_place(list: &[u8], block: &[u8], store: &[u8], k: u32) -> Walked
+    ensures { λ r. ⌜ r ≡ walked (checkRuling (now (list .entry)) (now (block .entry)) (now (store .entry)) k) (recordsOf (now (list .entry))) ⌝ }
+{
+    let w = accept(list, block, store);
+    let Walked::Through(t) = w else {
+        return w;
+    };
+    if t.entries <= k {
+        return walk::stopped(Fault::NoSuchRecord, 0);
     }
     w
 }
@@ -61,13 +68,10 @@ pub fn accept(list: &[u8], block: &[u8], store: &[u8]) -> Walked
 pub fn check(list: &[u8], block: &[u8], store: &[u8], k: u32) -> Answer
     ensures { λ r. ⌜ r ≡ checked (now (list .entry)) (now (block .entry)) (now (store .entry)) k ⌝ }
 {
-    let w = accept(list, block, store);
-    let Walked::Through(t) = w else {
+    let w = accept_place(list, block, store, k);
+    let Walked::Through(_totals) = w else {
         return Answer::Refused(walk::refusal_of(w));
     };
-    if t.entries <= k {
-        return format::refused(Fault::NoSuchRecord);
-    }
     accepted(0)
 }
 
@@ -119,8 +123,8 @@ fn stored_before(list: &[u8], k: usize) -> usize
 pub fn show<'a>(list: &[u8], block: &'a [u8], store: &'a [u8], k: u32) -> &'a [u8]
     ensures { λ r. ⌜ whereOf r ≡ shown (now (list .entry)) (block .entry) (store .entry) k ⌝ }
 {
-    let answer = check(list, block, store, k);
-    let Answer::Accepted(_figures) = answer else {
+    let w = accept_place(list, block, store, k);
+    let Walked::Through(_totals) = w else {
         return &block[0..0];
     };
     let i = format::index(k);

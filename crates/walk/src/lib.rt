@@ -188,6 +188,13 @@ pub fn walk(list: &[u8], version: &[u8], store: &[u8], scope: Scope) -> Walked
     })
 }
 
+// The answer of checks that stop at a fault.
+pub fn stopped(fault: Fault, place: u32) -> Walked
+    ensures { λ r. ⌜ r ≡ Walked.Stopped (refuse fault place) ⌝ }
+{
+    Walked::Stopped(Refusal { fault, place })
+}
+
 // The refusal of a walk that was stopped.
 pub fn refusal_of(w: Walked) -> Refusal
     ensures { λ r. ⌜ r ≡ refusalOf w ⌝ }
