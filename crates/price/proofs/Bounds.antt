@@ -31,12 +31,16 @@ range-of-fits e f h =
 pub price-most : (e f : ℕ) → priceFits e f ≡ true → priceOf e f ≤ 16711425
 price-most e f h = let r = range-of-fits e f h in product-most f e 65535 255 (r .f-most) (r .e-most)
 
+-- the number of some disk bytes
+pub as-number : {d : DiskBytes} {n : ℕ} → d ≡ record { 0 = n } → d .0 ≡ n
+as-number e = ap (λ (x : DiskBytes). x .0) e
+
 -- what a priced entry tells
 pub fits-of-at : (e f : ℕ) (d : DiskBytes) → priced e f ≡ At d → (priceFits e f ≡ true) × (d .0 ≡ priceOf e f)
 fits-of-at e f d h = go (priceFits e f) refl h
   where
     go : (t : Bool) → priceFits e f ≡ t → cond t (At (record { 0 = priceOf e f })) OutOfRange ≡ At d → (priceFits e f ≡ true) × (d .0 ≡ priceOf e f)
-    go true k l = (k, let m : d ≡ record { 0 = priceOf e f } = cc in ap (λ (x : DiskBytes). x .0) m)
+    go true k l = (k, let m : d ≡ record { 0 = priceOf e f } = cc in as-number m)
     go false k l = absurd (let z : _≡_ {A = ℕ} 0 1 = cc in omega arith)
 
 pub unfit-of-range : (e f : ℕ) → priced e f ≡ OutOfRange → priceFits e f ≡ false

@@ -44,10 +44,17 @@ pub fn price_of(e: u32, f: u32) -> Priced
     Priced::At(worth(IndexBytes(e as u64), f))
 }
 
-// The cost of so many entries and stored bytes, at the price p of an entry.
-pub fn cost_of(p: DiskBytes, entries: u32, stored: u32) -> DiskBytes
-    requires { ⌜ (p .0 ≤ 16711425) × (entries ≤ 4096) ⌝ }
-    ensures { λ r. ⌜ r .0 ≡ p .0 * entries + stored ⌝ }
+// So many bytes, as disk bytes.
+pub fn disk(bytes: u32) -> DiskBytes
+    ensures { λ r. ⌜ r ≡ record { 0 = bytes } ⌝ }
 {
-    DiskBytes(p.0 * (entries as u64) + (stored as u64))
+    DiskBytes(bytes as u64)
+}
+
+// The cost of so many entries and stored bytes, at the price p of an entry.
+pub fn cost_of(p: DiskBytes, entries: u32, stored: DiskBytes) -> DiskBytes
+    requires { ⌜ (p .0 ≤ 16711425) × (entries ≤ 4096) × (stored .0 < 4294967296) ⌝ }
+    ensures { λ r. ⌜ r .0 ≡ p .0 * entries + stored .0 ⌝ }
+{
+    DiskBytes(p.0 * (entries as u64) + stored.0)
 }

@@ -20,7 +20,7 @@ use Rattle.sweep.specs.declared.Turn.{Turn}
 use Rattle.sweep.specs.Sweep.{hintByte, hintBytes, turned, bestOf, hintsOf, nextBit, forwards, Back, LeastIn}
 
 abbrev made : ℕ → ℕ → ℕ → Turn
-made k h b = record { kept = k; stored = h; hint = b }
+made k h b = record { kept = record { 0 = k }; stored = record { 0 = h }; hint = b }
 
 -- the turn that the code makes, by its tests
 module _ (price : ℕ) (r : Record) (kept held w : ℕ) (e : w ≡ sizeOf r) where
@@ -48,7 +48,7 @@ records-back list n i h k =
 
 pub back-turn : (price : ℕ) (list : List ℕ) (n i kept held : ℕ) → 0 < i → i ≤ n → kept ≡ bestOf price (recordsFrom list n i) keep → held ≡ bestOf price (recordsFrom list n i) store
     → (t : Turn) → t ≡ turned price (recordOf (rowAt list (i - 1))) kept held
-    → (t .kept ≡ bestOf price (recordsFrom list n (i - 1)) keep) × (t .stored ≡ bestOf price (recordsFrom list n (i - 1)) store)
+    → (t .kept .0 ≡ bestOf price (recordsFrom list n (i - 1)) keep) × (t .stored .0 ≡ bestOf price (recordsFrom list n (i - 1)) store)
     × (t .hint ∷ hintBytes (hintsOf price (recordsFrom list n i)) ≡ hintBytes (hintsOf price (recordsFrom list n (i - 1))))
 back-turn price list n i kept held h k ek eh t e = rw (e, ek, eh, records-back list n i h k) (refl, refl, refl)
 

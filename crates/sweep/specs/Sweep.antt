@@ -29,12 +29,16 @@ abbrev pub turned : ℕ → Record → ℕ → ℕ → Turn
 turned price r kept stored =
     let d = decide (freedom r) (price + kept) (price + sizeOf r + stored) in
     let e = decide (freedom r) (price + kept) (sizeOf r + stored) in
-    record { kept = at d (price + kept) (price + sizeOf r + stored); stored = at e (price + kept) (sizeOf r + stored); hint = hintByte (d, e) }
+    record {
+      kept = record { 0 = at d (price + kept) (price + sizeOf r + stored) };
+      stored = record { 0 = at e (price + kept) (sizeOf r + stored) };
+      hint = hintByte (d, e);
+    }
 
 pub record Turned (price : ℕ) (r : Record) (kept stored : ℕ) (t : Turn) : Type 0 where
   pub is : t ≡ turned price r kept stored
-  pub kept-most : t .kept < price + stored + 4294967296
-  pub stored-most : t .stored < stored + 4294967296
+  pub kept-most : t .kept .0 < price + stored + 4294967296
+  pub stored-most : t .stored .0 < stored + 4294967296
 
 -- the least cost of the records, after the bit b
 abbrev pub bestOf : ℕ → List Record → Bit → ℕ

@@ -7,29 +7,24 @@ ghost use Prim.Native.Nat.{_+_, _/_, _≤_, _<_};
 ghost use lib.ListN.{length};
 ghost use Rattle.sweep.specs.Sweep.{Turned, Room, Back, nextBit, forwards, LeastIn};
 use format::Record;
+use price::DiskBytes;
 
 // What a record comes to: the least costs from it on, after a kept and after a stored record, and its two bits.
 pub struct Turn {
-    pub kept: u64,
-    pub stored: u64,
+    pub kept: DiskBytes,
+    pub stored: DiskBytes,
     pub hint: u8,
 }
 
-fn wide(x: u32) -> u64
-    ensures { λ r. ⌜ r ≡ x ⌝ }
-{
-    x as u64
-}
-
 // One record from the rear: `kept` and `stored` are the least costs of what follows it, after it is kept and after it is stored.
-fn weigh(price: u64, item: Record, kept: u64, stored: u64) -> Turn
-    requires { ⌜ (price ≤ 16711425) × (kept ≤ 17592202756096) × (stored ≤ 17592202756096) ⌝ }
-    ensures { λ t. ⌜ Turned price item kept stored t ⌝ }
+fn weigh(price: DiskBytes, item: Record, kept: DiskBytes, stored: DiskBytes) -> Turn
+    requires { ⌜ (price .0 ≤ 16711425) × (kept .0 ≤ 17592202756096) × (stored .0 ≤ 17592202756096) ⌝ }
+    ensures { λ t. ⌜ Turned (price .0) item (kept .0) (stored .0) t ⌝ }
 {
-    let size = wide(choice::size_of(item));
-    let keep = price + kept;
-    let fresh = price + size + stored;
-    let joined = size + stored;
+    let size = price::disk(choice::size_of(item));
+    let keep = DiskBytes(price.0 + kept.0);
+    let fresh = DiskBytes(price.0 + size.0 + stored.0);
+    let joined = DiskBytes(size.0 + stored.0);
     if let Record::New(_) = item {
         return Turn {
             kept: fresh,
@@ -37,8 +32,8 @@ fn weigh(price: u64, item: Record, kept: u64, stored: u64) -> Turn
             hint: 3,
         };
     }
-    if keep <= fresh {
-        if keep <= joined {
+    if keep.0 <= fresh.0 {
+        if price.0 + kept.0 <= joined.0 {
             return Turn {
                 kept: keep,
                 stored: keep,
@@ -59,13 +54,13 @@ fn weigh(price: u64, item: Record, kept: u64, stored: u64) -> Turn
 }
 
 // The sweep from the rear: the two bits of each record, and the least cost of all.
-fn backwards(price: u64, list: &[u8], n: usize, choice: &mut [u8]) -> u64
-    requires { ⌜ Room price (now list) n (now choice) ⌝ }
-    ensures { λ r. ⌜ Back price (now (list .entry)) n (now (choice .entry)) (now (choice .exit)) r ⌝ }
+fn backwards(price: DiskBytes, list: &[u8], n: usize, choice: &mut [u8]) -> DiskBytes
+    requires { ⌜ Room (price .0) (now list) n (now choice) ⌝ }
+    ensures { λ r. ⌜ Back (price .0) (now (list .entry)) n (now (choice .entry)) (now (choice .exit)) (r .0) ⌝ }
 {
     let mut i = n;
-    let mut kept: u64 = 0;
-    let mut stored: u64 = 0;
+    let mut kept = DiskBytes(0);
+    let mut stored = DiskBytes(0);
     while 0 < i {
         i -= 1;
         let t = weigh(
@@ -106,9 +101,9 @@ fn settle(n: usize, choice: &mut [u8])
 }
 
 // The least choice, one byte for each record, and the cost of its list.
-pub fn least_choice(price: u64, list: &[u8], choice: &mut [u8]) -> u64
-    requires { ⌜ Room price (now list) (length (now list) / 12) (now choice) ⌝ }
-    ensures { λ r. ⌜ LeastIn price (now (list .entry)) (now (choice .entry)) (now (choice .exit)) r ⌝ }
+pub fn least_choice(price: DiskBytes, list: &[u8], choice: &mut [u8]) -> DiskBytes
+    requires { ⌜ Room (price .0) (now list) (length (now list) / 12) (now choice) ⌝ }
+    ensures { λ r. ⌜ LeastIn (price .0) (now (list .entry)) (now (choice .entry)) (now (choice .exit)) (r .0) ⌝ }
 {
     let n = list.len() / 12;
     let cost = backwards(price, list, n, choice);

@@ -1,6 +1,6 @@
 -- `sweep::backwards` meets its contract. The invariant: from record i on, the area holds the hints, and `kept` and `stored` are the least costs of
 -- what follows, each at most a fixed sum for a record. The measure is i. Assumes nothing.
-use Prim.Native.Nat.{ℕ, _+_, _*_, _-_, _≤_}
+use Prim.Native.Nat.{ℕ, _+_, _*_, _-_, _≤_, _<_}
 use native.Mathlib.Omega.{arith}
 use mathlib.Core.Path.{_≡_, refl, sym, _∙_, ap}
 use mathlib.Core.List.{List, _++_}
@@ -25,7 +25,7 @@ record Inv (price : ℕ) (list : List ℕ) (n : ℕ) (choice₀ choice : List �
   area : choice ≡ take i choice₀ ++ (hintBytes (hintsOf price (recordsFrom list n i)) ++ drop n choice₀)
 
 abbrev Inv-loop : tie.InvT-loop
-Inv-loop price list n choice₀ i₀ kept₀ stored₀ choice i kept stored = Inv price list n choice₀ choice i kept stored
+Inv-loop price list n choice₀ i₀ kept₀ stored₀ choice i kept stored = Inv (price .0) list n choice₀ choice i (kept .0) (stored .0)
 
 abbrev μ-loop : tie.MeasureT-loop
 μ-loop price list n choice₀ i₀ kept₀ stored₀ choice i kept stored = i
@@ -63,22 +63,25 @@ loop-less c = search needs
 
 loop-again : tie.Need-loop-again Inv-loop μ-loop
 loop-again c =
-    let g = c .before .before .before .before .before .before .before .args in
-    let l = c .before .before .before .before .loop in
-    let t = c .weigh in
-    let r : c .before .record-of .result ≡ recordOf (rowAt (g .list .now) (l .i - 1)) = c .before .record-of .ensures ∙ ap recordOf (c .before .before .row-at .ensures) in
-    let b = back-turn (g .price) (g .list .now) (g .n) (l .i) (l .kept) (l .stored) (c .before .before .before .loop-test .taken) (l .inv .in-n) (l .inv .kept-is) (l .inv .stored-is) (t .result)
-    (t .ensures .is ∙ ap (λ (x : Record). turned (g .price) x (l .kept) (l .stored)) r) in
+    let w = c .before .before in
+    let g = w .before .before .before .before .before .before .before .args in
+    let l = w .before .before .before .before .loop in
+    let t = w .weigh in
+    let p = g .price .0 in
+    let some : 0 < l .i = w .before .before .before .loop-test .taken in
+    let r : w .before .record-of .result ≡ recordOf (rowAt (g .list .now) (l .i - 1)) = w .before .record-of .ensures ∙ ap recordOf (w .before .before .row-at .ensures) in
+    let b = back-turn p (g .list .now) (g .n) (l .i) (l .kept .0) (l .stored .0) some (l .inv .in-n) (l .inv .kept-is) (l .inv .stored-is) (t .result)
+    (t .ensures .is ∙ ap (λ (x : Record). turned p x (l .kept .0) (l .stored .0)) r) in
     record {
       in-n = search needs;
       same = search needs;
-      kept-most = search needs;
-      stored-most = search needs;
+      kept-most = omega (arith, t .ensures .kept-most, l .inv .stored-most, some, w .before .before .before .before .before .before .before .pre .price-most);
+      stored-most = omega (arith, t .ensures .stored-most, l .inv .stored-most, some);
       kept-is = b .0;
       stored-is = b .1;
       area =
           ap (λ (p : List ℕ). set p (l .i - 1) (t .result .hint)) (l .inv .area)
-          ∙ set-back (g .choice .now) (hintBytes (hintsOf (g .price) (recordsFrom (g .list .now) (g .n) (l .i))) ++ drop (g .n) (g .choice .now)) (l .i) (t .result .hint) (omega arith) (omega arith)
+          ∙ set-back (g .choice .now) (hintBytes (hintsOf p (recordsFrom (g .list .now) (g .n) (l .i))) ++ drop (g .n) (g .choice .now)) (l .i) (t .result .hint) some (omega (arith, l .inv .in-n, w .before .before .before .before .before .before .before .pre .in-choice))
           ∙ ap (λ (p : List ℕ). take (l .i - 1) (g .choice .now) ++ (p ++ drop (g .n) (g .choice .now))) (b .2);
     }
 
@@ -91,8 +94,8 @@ returns c =
     let l = c .before .loop in
     let z : l .i ≡ 0 = omega arith in
     record {
-      least-cost = l .inv .kept-is ∙ ap (λ (j : ℕ). bestOf (g .price) (recordsFrom (g .list .now) (g .n) j) keep) z;
-      area = l .inv .area ∙ ap (λ (j : ℕ). take j (g .choice .now) ++ (hintBytes (hintsOf (g .price) (recordsFrom (g .list .now) (g .n) j)) ++ drop (g .n) (g .choice .now))) z;
+      least-cost = l .inv .kept-is ∙ ap (λ (j : ℕ). bestOf (g .price .0) (recordsFrom (g .list .now) (g .n) j) keep) z;
+      area = l .inv .area ∙ ap (λ (j : ℕ). take j (g .choice .now) ++ (hintBytes (hintsOf (g .price .0) (recordsFrom (g .list .now) (g .n) j)) ++ drop (g .n) (g .choice .now))) z;
     }
 
 pub backwards-spec : {M : Type 1} → statement M

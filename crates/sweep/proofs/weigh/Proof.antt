@@ -1,7 +1,7 @@
 -- `sweep::weigh` meets its contract: the record's turn, by its kind and by the two tests. Assumes nothing.
 use native.Mathlib.Omega.{arith}
 use mathlib.Core.Path.{_≡_, _∙_, ap}
-use Rattle.format.specs.Meaning.{sizeOf}
+use Rattle.price.proofs.Bounds.{as-number}
 use Rattle.choice.specs.Choice.{freedom}
 use Rattle.sweep.proofs.Sweeping.{turned-only, turned-keep, turned-join, turned-store}
 use borrow.Author.Needs.{needs}
@@ -11,65 +11,72 @@ use Rattle.sweep.proofs.weigh.Tie as tie
 size-of-requires : tie.Need-size-of-requires
 size-of-requires c κs = search needs
 
-wide-requires : tie.Need-wide-requires
-wide-requires c κs = search needs
+disk-requires : tie.Need-disk-requires
+disk-requires c κs = search needs
 
-add-keep : tie.Need-add-keep
-add-keep c = search needs
+add-t10 : tie.Need-add-t10
+add-t10 c = search needs
 
-add-fresh : tie.Need-add-fresh
-add-fresh c = search needs
+add-t10-2 : tie.Need-add-t10-2
+add-t10-2 c = omega (arith, as-number (c .before .before .before .before .disk .ensures))
 
-add-fresh-2 : tie.Need-add-fresh-2
-add-fresh-2 c = search needs
+add-t11 : tie.Need-add-t11
+add-t11 c = omega (arith, as-number (c .before .before .before .before .before .disk .ensures))
 
-add-joined : tie.Need-add-joined
-add-joined c = search needs
+add-t10-3 : tie.Need-add-t10-3
+add-t10-3 c = omega (arith, as-number (c .before .before .before .before .before .before .before .disk .ensures))
 
 enum-told : tie.Need-enum-told
 enum-told c = search needs
 
 returns : tie.Need-returns
 returns c =
-    let g = c .before .before .before .before .args in
-    let e : c .before .before .wide .result ≡ sizeOf (g .item) = c .before .before .wide .ensures ∙ c .before .before .before .size-of .ensures in
+    let d = c .before .before .before .before .before .before .before .before .before in
+    let g = d .before .before .args in
+    let s = as-number (d .disk .ensures) in
     record {
-      is = turned-only (g .price) (g .item) (g .kept) (g .stored) (c .before .before .wide .result) e (ap freedom (c .enum-told .given .1));
-      kept-most = omega arith;
-      stored-most = omega arith;
+      is = turned-only (g .price .0) (g .item) (g .kept .0) (g .stored .0) (d .disk .result .0) (s ∙ d .before .size-of .ensures) (ap freedom (c .enum-told .given .1));
+      kept-most = omega (arith, s);
+      stored-most = omega (arith, s);
     }
 
 enum-told-2 : tie.Need-enum-told-2
 enum-told-2 c = search needs
 
+add-if2 : tie.Need-add-if2
+add-if2 c = search needs
+
 returns-2 : tie.Need-returns-2
 returns-2 c =
-    let g = c .before .before .before .before .before .before .args in
-    let e : c .before .before .before .before .wide .result ≡ sizeOf (g .item) = c .before .before .before .before .wide .ensures ∙ c .before .before .before .before .before .size-of .ensures in
+    let d = c .before .before .before .before .before .before .before .before .before .before .before .before .before .before .before .before in
+    let g = d .before .before .args in
+    let s = as-number (d .disk .ensures) in
     record {
-      is = turned-keep (g .price) (g .item) (g .kept) (g .stored) (c .before .before .before .before .wide .result) e (ap freedom (c .before .before .enum-told2 .given .1)) (c .before .if1 .taken) (c .if2 .taken);
-      kept-most = omega arith;
-      stored-most = omega arith;
+      is = turned-keep (g .price .0) (g .item) (g .kept .0) (g .stored .0) (d .disk .result .0) (s ∙ d .before .size-of .ensures) (ap freedom (c .before .before .before .before .before .before .before .enum-told2 .given .1)) (omega arith) (omega arith);
+      kept-most = omega (arith, s);
+      stored-most = omega (arith, s);
     }
 
 returns-3 : tie.Need-returns-3
 returns-3 c =
-    let g = c .before .before .before .before .before .before .args in
-    let e : c .before .before .before .before .wide .result ≡ sizeOf (g .item) = c .before .before .before .before .wide .ensures ∙ c .before .before .before .before .before .size-of .ensures in
+    let d = c .before .before .before .before .before .before .before .before .before .before .before .before .before .before .before .before in
+    let g = d .before .before .args in
+    let s = as-number (d .disk .ensures) in
     record {
-      is = turned-join (g .price) (g .item) (g .kept) (g .stored) (c .before .before .before .before .wide .result) e (ap freedom (c .before .before .enum-told2 .given .1)) (c .before .if1 .taken) (c .if2 .left);
-      kept-most = omega arith;
-      stored-most = omega arith;
+      is = turned-join (g .price .0) (g .item) (g .kept .0) (g .stored .0) (d .disk .result .0) (s ∙ d .before .size-of .ensures) (ap freedom (c .before .before .before .before .before .before .before .enum-told2 .given .1)) (omega arith) (omega arith);
+      kept-most = omega (arith, s);
+      stored-most = omega (arith, s);
     }
 
 returns-4 : tie.Need-returns-4
 returns-4 c =
-    let g = c .before .before .before .before .before .args in
-    let e : c .before .before .before .wide .result ≡ sizeOf (g .item) = c .before .before .before .wide .ensures ∙ c .before .before .before .before .size-of .ensures in
+    let d = c .before .before .before .before .before .before .before .before .before .before .before .before in
+    let g = d .before .before .args in
+    let s = as-number (d .disk .ensures) in
     record {
-      is = turned-store (g .price) (g .item) (g .kept) (g .stored) (c .before .before .before .wide .result) e (ap freedom (c .before .enum-told2 .given .1)) (c .if1 .left);
-      kept-most = omega arith;
-      stored-most = omega arith;
+      is = turned-store (g .price .0) (g .item) (g .kept .0) (g .stored .0) (d .disk .result .0) (s ∙ d .before .size-of .ensures) (ap freedom (c .before .before .before .enum-told2 .given .1)) (omega arith);
+      kept-most = omega (arith, s);
+      stored-most = omega (arith, s);
     }
 
 pub weigh-spec : {M : Type 1} → statement M
@@ -77,14 +84,15 @@ weigh-spec =
     tie.close
     (tie.spec
     size-of-requires
-    wide-requires
-    add-keep
-    add-fresh
-    add-fresh-2
-    add-joined
+    disk-requires
+    add-t10
+    add-t10-2
+    add-t11
+    add-t10-3
     enum-told
     returns
     enum-told-2
+    add-if2
     returns-2
     returns-3
     returns-4)
