@@ -1,1 +1,2 @@
 pub mod Admitting
+pub mod Calling

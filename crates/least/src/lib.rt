@@ -1,8 +1,10 @@
 // The call partition: of all choices for a list, the one whose list costs least, with its list and its stored block.
+ghost use Rattle.area.specs.Area.{areas};
 ghost use Rattle.least.specs.Partition.{Partitioned};
-use admit::Admitted;
 use format::Answer;
-use format::Figures;
+use format::Fault;
+use price::Priced;
+use walk::Walked;
 
 // Partition: the least choice, its list and its stored block, each over the front of its area; nothing is written where it refuses.
 pub fn partition(
@@ -15,28 +17,16 @@ pub fn partition(
     area: &mut [u8],
     block: &mut [u8],
 ) -> Answer
-    ensures { λ r. ⌜ Partitioned e f (now (list .entry)) (now (version .entry)) (now (store .entry)) (now (choice .entry)) (now (area .entry)) (now (block .entry)) r (now (choice .exit)) (now (area .exit)) (now (block .exit)) ⌝ }
+    ensures { λ r. ⌜ Partitioned e f (now (list .entry)) (now (version .entry)) (now (store .entry)) (areas (now (choice .entry)) (now (area .entry)) (now (block .entry))) r (areas (now (choice .exit)) (now (area .exit)) (now (block .exit))) ⌝ }
 {
-    let admitted = admit::admit(
-        e,
-        f,
-        list,
-        version,
-        store,
-        choice.len(),
-        area.len(),
-        block.len(),
-    );
-    let Admitted::At(p) = admitted else {
-        return Answer::Refused(admit::refusal_of(admitted));
+    let priced = price::price_of(e, f);
+    let Priced::At(p) = priced else {
+        return format::refused(Fault::Price);
     };
-    let cost = sweep::least_choice(p.0, list, choice);
-    let wrote = writer::write(list, choice, version, area, block);
-    Answer::Accepted(Figures {
-        cost,
-        entries: wrote.entries,
-        stored: wrote.stored,
-        looks: 0,
-        whole: 0,
-    })
+    let w = admit::admit(list, version, store, choice.len(), area.len(), block.len());
+    let Walked::Through(_totals) = w else {
+        return Answer::Refused(walk::refusal_of(w));
+    };
+    sweep::least_choice(p, list, choice);
+    writer::finish(p, list, choice, version, area, block, 0)
 }

@@ -1,8 +1,10 @@
 // The call pass: the published linear method, with the list and the stored block of the choice that it leaves.
-ghost use Rattle.linear.specs.Linear.{PassedOver};
-use admit::Admitted;
+ghost use Rattle.area.specs.Area.{areas};
+ghost use Rattle.linear.specs.Linear.{PassMade};
 use format::Answer;
-use format::Figures;
+use format::Fault;
+use price::Priced;
+use walk::Walked;
 
 // Pass: the choice of the machine's last list, its list and its stored block, each over the front of its area, and the looks it took; nothing is
 // written where it refuses.
@@ -16,29 +18,16 @@ pub fn pass(
     area: &mut [u8],
     block: &mut [u8],
 ) -> Answer
-    ensures { λ r. ⌜ PassedOver e f (now (list .entry)) (now (version .entry)) (now (store .entry)) (now (choice .entry)) (now (area .entry)) (now (block .entry)) r (now (choice .exit)) (now (area .exit)) (now (block .exit)) ⌝ }
+    ensures { λ r. ⌜ PassMade e f (now (list .entry)) (now (version .entry)) (now (store .entry)) (areas (now (choice .entry)) (now (area .entry)) (now (block .entry))) r (areas (now (choice .exit)) (now (area .exit)) (now (block .exit))) ⌝ }
 {
-    let admitted = admit::admit(
-        e,
-        f,
-        list,
-        version,
-        store,
-        choice.len(),
-        area.len(),
-        block.len(),
-    );
-    let Admitted::At(p) = admitted else {
-        return Answer::Refused(admit::refusal_of(admitted));
+    let priced = price::price_of(e, f);
+    let Priced::At(p) = priced else {
+        return format::refused(Fault::Price);
     };
-    let looks = pass::pass_choice(p.0, list, choice);
-    let wrote = writer::write(list, choice, version, area, block);
-    let cost = price::cost_of(p, wrote.entries, wrote.stored);
-    Answer::Accepted(Figures {
-        cost: cost.0,
-        entries: wrote.entries,
-        stored: wrote.stored,
-        looks,
-        whole: 0,
-    })
+    let w = admit::admit(list, version, store, choice.len(), area.len(), block.len());
+    let Walked::Through(_totals) = w else {
+        return Answer::Refused(walk::refusal_of(w));
+    };
+    let looks = pass::pass_choice(p, list, choice);
+    writer::finish(p, list, choice, version, area, block, looks)
 }

@@ -1,2 +1,2 @@
 pub mod Write
-pub mod Divide
+pub mod Decide

@@ -8,11 +8,10 @@ use Rattle.format.specs.declared.Record.{Record}
 use Rattle.format.specs.declared.Record.the-variants.{New, Match}
 use Rattle.format.specs.Limits.{listMost, versionMost}
 use Rattle.format.specs.Record.{word, encode, recordsOf}
-use Rattle.format.specs.Meaning.{sizeOf, whole, stored, blockOf}
+use Rattle.format.specs.Meaning.{sizeOf, whole, blockOf}
 use Rattle.area.specs.Area.{pasted, over}
 use Rattle.choice.specs.Choice.{bitsOf, listOf}
 use Rattle.writer.specs.declared.Emitted.{Emitted}
-use Rattle.writer.specs.declared.Wrote.{Wrote}
 use Rattle.writer.specs.declared.Open.{Open}
 use Rattle.writer.specs.declared.Open.the-variants.{No, One}
 
@@ -91,9 +90,3 @@ pub record Writable (list choice version area block : List ℕ) : Type 0 where
   pub in-choice : length list / 12 ≤ length choice
   pub in-area : length list ≤ length area
   pub in-block : length version ≤ length block
-
-pub record Written (list choice version area block : List ℕ) (r : Wrote) (area′ block′ : List ℕ) : Type 0 where
-  pub area-after : area′ ≡ over (encode (listIn list choice)) area
-  pub block-after : block′ ≡ over (blockIn list choice version) block
-  pub entries-is : r .entries ≡ length (listIn list choice)
-  pub stored-is : r .stored ≡ stored (listIn list choice)

@@ -1,11 +1,15 @@
-// Writing what a choice makes of a list: its list, with one record held open, and its stored block.
+// Writing what a choice makes of a list: its list, with one record held open, its stored block, and the figures of both.
 ghost use mathlib.Core.Path.{_≡_};
 ghost use Prim.Native.Nat.{_+_, _/_, _≤_, _<_};
 ghost use lib.ListN.{length};
 ghost use Rattle.format.specs.Record.{bytesOf, encode};
 ghost use Rattle.area.specs.Area.{pasted};
-ghost use Rattle.writer.specs.Write.{fields, jointOf, pending, openSize, flushed, Emits, ListReady, ListWritten, BlockReady, BlockWritten, Writable, Written};
+ghost use Rattle.writer.specs.Write.{fields, jointOf, pending, openSize, flushed, Emits, ListReady, ListWritten, BlockReady, BlockWritten};
+ghost use Rattle.writer.specs.Decide.{Finishable, Finished};
+use format::Answer;
+use format::Figures;
 use format::Record;
+use price::DiskBytes;
 
 // A record that is not written yet, as the next may join it.
 pub enum Open {
@@ -148,21 +152,27 @@ fn write_block(list: &[u8], choice: &[u8], version: &[u8], block: &mut [u8]) -> 
     out
 }
 
-// The numbers of a list that was written.
-pub struct Wrote {
-    pub entries: u32,
-    pub stored: u32,
-}
-
-// The list and the stored block of the choice, each over the front of its area.
-pub fn write(list: &[u8], choice: &[u8], version: &[u8], area: &mut [u8], block: &mut [u8]) -> Wrote
-    requires { ⌜ Writable (now list) (now choice) (now version) (now area) (now block) ⌝ }
-    ensures { λ r. ⌜ Written (now (list .entry)) (now (choice .entry)) (now (version .entry)) (now (area .entry)) (now (block .entry)) r (now (area .exit)) (now (block .exit)) ⌝ }
+// The end of a call: the list and the stored block of the choice, each over the front of its area, and their figures.
+pub fn finish(
+    price: DiskBytes,
+    list: &[u8],
+    choice: &[u8],
+    version: &[u8],
+    area: &mut [u8],
+    block: &mut [u8],
+    looks: u32,
+) -> Answer
+    requires { ⌜ Finishable (price .0) (now list) (now choice) (now version) (now area) (now block) ⌝ }
+    ensures { λ r. ⌜ Finished (price .0) (now (list .entry)) (now (choice .entry)) (now (version .entry)) looks (now (area .entry)) (now (block .entry)) r (now (area .exit)) (now (block .exit)) ⌝ }
 {
-    let length = write_list(list, choice, area);
-    let stored = write_block(list, choice, version, block);
-    Wrote {
-        entries: (length / 12) as u32,
-        stored: stored as u32,
-    }
+    let entries = (write_list(list, choice, area) / 12) as u32;
+    let stored = write_block(list, choice, version, block) as u32;
+    let cost = price::cost_of(price, entries, price::disk(stored));
+    Answer::Accepted(Figures {
+        cost: cost.0,
+        entries,
+        stored,
+        looks,
+        whole: 0,
+    })
 }

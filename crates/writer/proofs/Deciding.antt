@@ -1,0 +1,82 @@
+-- From a choice in its area and what was written of it to the answer and the areas of the call, and what these are where the call is accepted.
+-- Assumes nothing.
+use Prim.Native.Nat.{ℕ, _*_, _/_, _≤_}
+use native.Mathlib.Omega.{arith}
+use mathlib.Core.Path.{_≡_, sym, _∙_, ap}
+use mathlib.Core.List.{List}
+use lib.ListN.{length, take}
+use Rattle.format.specs.declared.Record.{Record}
+use Rattle.format.specs.declared.Ruling.{Ruling}
+use Rattle.format.specs.declared.Ruling.the-variants.{Fine, Stop}
+use Rattle.format.specs.declared.Refusal.{Refusal}
+use Rattle.format.specs.declared.Answer.{Answer}
+use Rattle.format.specs.declared.Answer.the-variants.{Accepted, Refused}
+use Rattle.format.specs.Limits.{listMost, versionMost}
+use Rattle.format.specs.Record.{recordsOf, encode}
+use Rattle.format.specs.Meaning.{whole, stored, blockOf}
+use Rattle.format.proofs.Rows.{length-recordsOf}
+use Rattle.format.proofs.Encoding.{length-encode}
+use Rattle.format.proofs.Rebuilding.{length-block}
+use Rattle.area.specs.Area.{over, Areas, areas}
+use Rattle.area.proofs.Filling.{front, front-room}
+use Rattle.choice.specs.Choice.{Bit, bitBytes, bitsOf, IsChoice, listOf}
+use Rattle.choice.proofs.Lists.{length-choice, bits-over}
+use Rattle.writer.specs.Write.{listIn}
+use Rattle.writer.specs.Decide.{figures, laid, Decided, Finishable, Finished}
+
+pub decided-refused : {q : Ruling} {x : Refusal} {r : Answer} (p : ℕ) (list v : List ℕ) (c : List Bit) (looks : ℕ) (before : Areas) → q ≡ Stop x → r ≡ Refused x
+    → Decided q p list v c looks before r before
+decided-refused p list v c looks before e f = record { answered = rw e f; areas-after = rw e }
+
+-- a choice area of the same length takes the first one's place
+pub finishable : {p : ℕ} {list v choice area block : List ℕ} → p ≤ 16711425 → length list ≤ listMost → length v ≤ versionMost → whole (recordsOf list) ≡ length v
+    → length list / 12 ≤ length choice → length list ≤ length area → length v ≤ length block → (choice′ : List ℕ) → length choice′ ≡ length choice
+    → Finishable p list choice′ v area block
+finishable h l m w c a b choice′ k =
+    record {
+      price-most = h;
+      writable = record { list-most = l; version-most = m; in-version = omega (arith, w); in-choice = omega (arith, c, k); in-area = a; in-block = b };
+    }
+
+-- the choice c stands in its area, and the end of the call is as it should be
+pub decided : {q : Ruling} {p : ℕ} {list v choice area block : List ℕ} {c : List Bit} {looks : ℕ} {r : Answer} {choice′ area′ block′ : List ℕ} → q ≡ Fine
+    → IsChoice (recordsOf list) c → choice′ ≡ over (bitBytes c) choice → Finished p list choice′ v looks area block r area′ block′
+    → Decided q p list v c looks (areas choice area block) r (areas choice′ area′ block′)
+decided {q} {p} {list} {v} {choice} {area} {block} {c} {looks} {r} {choice′} fine is-choice chosen done =
+    record {
+      answered = rw fine (done .answered ∙ ap (λ (l : List Record). Accepted (figures p l looks)) listed);
+      areas-after = rw (fine, chosen, done .area-after, done .block-after) (ap (λ (l : List Record). areas (over (bitBytes c) choice) (over (encode l) area) (over (blockOf l v) block)) listed);
+    }
+  where
+    listed : listIn list choice′ ≡ listOf (recordsOf list) c
+    listed = ap (listOf (recordsOf list)) (ap (bitsOf (length list / 12)) chosen ∙ bits-over (length list / 12) c choice (length-choice (recordsOf list) c is-choice ∙ length-recordsOf list))
+
+-- a call whose ruling is fine
+module _ {q : Ruling} {p : ℕ} {list v : List ℕ} {c : List Bit} {looks : ℕ} {before : Areas} {r : Answer} {after : Areas} (d : Decided q p list v c looks before r after) (fine : q ≡ Fine) where
+  pub decided-answer : r ≡ Accepted (figures p (listOf (recordsOf list) c) looks)
+  decided-answer = rw fine at (d .answered)
+
+  pub decided-areas : after ≡ laid c (listOf (recordsOf list) c) v before
+  decided-areas = rw fine at (d .areas-after)
+
+  -- the written list, as it is handed on
+  module _ {n : ℕ} (n-is : n ≡ 12 * length (listOf (recordsOf list) c)) where
+    whole-list : n ≡ length (encode (listOf (recordsOf list) c))
+    whole-list = n-is ∙ sym (length-encode (listOf (recordsOf list) c))
+
+    pub list-handed-on : take n (after .list) ≡ encode (listOf (recordsOf list) c)
+    list-handed-on = rw decided-areas (front n (encode (listOf (recordsOf list) c)) (before .list) whole-list)
+
+    pub list-room : n ≤ length (after .list)
+    list-room = rw decided-areas (omega (arith, whole-list, front-room (encode (listOf (recordsOf list) c)) (before .list)))
+
+  -- and its stored block
+  module _ {n : ℕ} (n-is : n ≡ stored (listOf (recordsOf list) c)) (in-version : whole (listOf (recordsOf list) c) ≤ length v) where
+    whole-block : n ≡ length (blockOf (listOf (recordsOf list) c) v)
+    whole-block = n-is ∙ sym (length-block (listOf (recordsOf list) c) v in-version)
+
+    pub block-handed-on : take n (after .block) ≡ blockOf (listOf (recordsOf list) c) v
+    block-handed-on = rw decided-areas (front n (blockOf (listOf (recordsOf list) c) v) (before .block) whole-block)
+
+    pub block-room : n ≤ length (after .block)
+    block-room = rw decided-areas (omega (arith, whole-block, front-room (blockOf (listOf (recordsOf list) c) v) (before .block)))
