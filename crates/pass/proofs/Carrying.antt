@@ -128,11 +128,12 @@ module _ (price : ℕ) (m : Machine) (h : Ready price m) where
   second-none g = sym (ap first (rest-after m ∙ fromPlace-none (m .kinds) (m .sizes) (m .right + 2) (omega arith)))
 
   -- at the front
-  pub looked-front : m .left ≡ 0 → (s : Step) → s .outcome ≡ Advance
+  pub looked-front : m .left ≡ 0 → (s : Step) → s .outcome ≡ Advance → s .looks ≡ 1
       → Moved m (s .list) (goneOn m) (m .left + 1) (m .right + 1) → Looked price m s
-  looked-front z s o v =
+  looked-front z s o n v =
       let none = outcome-no-match (testsOf price) (first (leftOf m)) (itemIn m (m .right)) (first (afterOf m)) (first (rest (afterOf m))) (h .front z) in
       record {
+        one = n;
         is = ap₂ (λ (x : Outcome) (y : State). record { outcome = x; next = y }) o (v .holds) ∙ sym (ap (λ (x : Outcome). ended x (leftOf m) (itemIn m (m .right)) (afterOf m)) none);
         gap = omega (arith, h .gap, v .left-is, v .right-is);
         within = omega (arith, h .not-rear, v .right-is);
@@ -164,13 +165,14 @@ module _ (price : ℕ) (m : Machine) (h : Ready price m) where
               ap reach (is ∙ ap (λ (x : Item). outcomeAt (testsOf price) (itemIn m (m .left - 1)) (itemIn m (m .right)) x second) a) in
               omega (arith, i, k, reach-mark (testsOf price) (itemIn m (m .left - 1)) (itemIn m (m .right)) second)
 
-      pub looked-of-carried : second ≡ first (rest (afterOf m)) → (s : Step) → s .outcome ≡ o → Carried m o (s .list) → Looked price m s
-      looked-of-carried e s d v =
+      pub looked-of-carried : second ≡ first (rest (afterOf m)) → (s : Step) → s .outcome ≡ o → s .looks ≡ 1 → Carried m o (s .list) → Looked price m s
+      looked-of-carried e s d n v =
           let b : first (leftOf m) ≡ itemIn m (m .left - 1) = ap first (below-next (m .kinds) (m .sizes) (m .left) some) in
           let t : o ≡ outcomeAt (testsOf price) (first (leftOf m)) (itemIn m (m .right)) (first (afterOf m)) (first (rest (afterOf m))) =
           is ∙ sym (ap₂ (λ (x y : Item). outcomeAt (testsOf price) x (itemIn m (m .right)) y (first (rest (afterOf m)))) b first-after
           ∙ ap (outcomeAt (testsOf price) (itemIn m (m .left - 1)) (itemIn m (m .right)) (itemIn m (m .right + 1))) (sym e)) in
           record {
+            one = n;
             is = ap₂ (λ (x : Outcome) (y : State). record { outcome = x; next = y }) d (v .holds) ∙ ap (λ (x : Outcome). ended x (leftOf m) (itemIn m (m .right)) (afterOf m)) t;
             gap = v .gap;
             within = v .within;

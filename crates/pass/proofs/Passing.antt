@@ -1,6 +1,6 @@
 -- From the list loaded to the pass's looks and items.
 -- Assumes nothing.
-use Prim.Native.Nat.{ℕ, _≤_}
+use Prim.Native.Nat.{ℕ, _-_, _*_, _≤_}
 use native.Mathlib.Omega.{arith}
 use mathlib.Core.Path.{_≡_, refl, ap, _∙_}
 use mathlib.Core.List.{List, []}
@@ -12,7 +12,7 @@ use Rattle.pass.specs.declared.Machine.{Machine}
 use Rattle.pass.specs.declared.Passed.{Passed}
 use Rattle.pass.specs.Pass.{Item, items, bytes, rest, joined, testsOf, pass, endItems, passOutcomes, passLooks, passItems}
 use Rattle.pass.specs.Machine.{rightOf, endOf, Loaded, Runnable, Ran}
-use Rattle.pass.proofs.Theorems.{bytes-items}
+use Rattle.pass.proofs.Theorems.{length-items, bytes-items}
 
 module _ (price : ℕ) (rs : List Record) (m : Machine) where
   pub runnable-of-loaded : price ≤ 16711425 → Loaded m (items rs) → whole rs ≤ versionMost → Runnable price m
@@ -27,6 +27,9 @@ module _ (price : ℕ) (rs : List Record) (m : Machine) where
     pub looks-of-ran : r .looks ≡ passLooks price rs
     unfolding passOutcomes
     looks-of-ran = v .looks-are ∙ ap (λ (xs : List Item). length (pass (testsOf price) xs .outcomes)) (h .holds)
+
+    pub few-of-ran : r .looks ≤ 2 * length rs - 1
+    few-of-ran = omega (arith, v .few-looks, ap length (h .holds), length-items rs)
 
     pub end-of-ran : endOf (r .list) ≡ passItems price rs
     unfolding endItems

@@ -15,7 +15,7 @@ use Rattle.pass.specs.Pass.{Item, new, match, neither, mark, bytes, isMa
 use Rattle.pass.specs.Machine.{itemAt, itemIn, leftOf, rightOf, afterOf, Ready, Looked, Runnable, Ran}
 use Rattle.pass.proofs.Fusing.{Some, Starts, bytes-joined}
 use Rattle.pass.proofs.Looks.{seen, look-turns}
-use Rattle.pass.proofs.Running.{Onward, onward, run-look, run-rear}
+use Rattle.pass.proofs.Running.{few-of-pass, Onward, onward, run-look, run-rear}
 use Rattle.pass.proofs.Theorems.{priceOf, merges-pay}
 use Rattle.pass.proofs.Gap.{fromPlace-next, fromPlace-none}
 
@@ -82,7 +82,7 @@ module _ (price : ℕ) where
             fits = h .fits;
           }
 
-      pub round-next : (s : Step) → Looked price m s → length (s .list .kinds) ≡ 4098 → length (s .list .sizes) ≡ 4098 → Round price xs (s .list) (looks + 1)
+      pub round-next : (s : Step) → Looked price m s → length (s .list .kinds) ≡ 4098 → length (s .list .sizes) ≡ 4098 → Round price xs (s .list) (looks + s .looks)
       round-next s v hk hs =
           let t = testsOf price in
           let f = 2 * length xs - looks in
@@ -91,7 +91,7 @@ module _ (price : ℕ) where
           let l : leftOf (s .list) ≡ o .next .left = ap (λ (x : Look). x .next .left) (v .is) in
           let r : rightOf (s .list) ≡ o .next .right = ap (λ (x : Look). x .next .right) (v .is) in
           let k = onward t (priceOf price) (merges-pay price) f (leftOf m) p (afterOf m) on in
-          let less : 2 * length xs - (looks + 1) ≡ f - 1 = omega arith in
+          let less : 2 * length xs - (looks + s .looks) ≡ f - 1 = omega (arith, v .one) in
           let u : run t f (leftOf m) (rightOf m) ≡ preceded (o .outcome) (run t (f - 1) (o .next .left) (o .next .right)) =
           ap (run t f (leftOf m)) opened ∙ run-look t f (leftOf m) p (afterOf m) (k .0) in
           let kept = look-turns t (priceOf price) (merges-pay price) (seen t (priceOf price) (merges-pay price) (leftOf m) p (afterOf m) (on .starts)) .kept in
@@ -105,7 +105,7 @@ module _ (price : ℕ) where
             few = h .few;
             going = λ g. rw (l, r, less) (k .1);
             end-same = rw (l, r, less) (h .end-same ∙ ap (λ (x : Run). x .end) u);
-            looks-same = rw (l, r, less) (h .looks-same ∙ ap (λ (x : Run). looks + length (x .outcomes)) u ∙ omega arith);
+            looks-same = rw (l, r, less) (h .looks-same ∙ ap (λ (x : Run). looks + length (x .outcomes)) u ∙ omega (arith, v .one));
           }
 
     pub round-end : 4097 ≤ m .right → (r : Passed) → r .looks ≡ looks → r .list ≡ m → Ran price xs r
@@ -113,8 +113,10 @@ module _ (price : ℕ) where
         let none : rightOf m ≡ [] = fromPlace-none (m .kinds) (m .sizes) (m .right) g in
         let u : run (testsOf price) (2 * length xs - looks) (leftOf m) (rightOf m) ≡ stopped (leftOf m) [] =
         ap (run (testsOf price) (2 * length xs - looks) (leftOf m)) none ∙ run-rear (testsOf price) (2 * length xs - looks) (leftOf m) in
+        let all : r .looks ≡ length (pass (testsOf price) xs .outcomes) = a ∙ omega (arith, h .looks-same, ap (λ (x : Run). length (x .outcomes)) u) in
         record {
-          looks-are = a ∙ omega (arith, h .looks-same, ap (λ (x : Run). length (x .outcomes)) u);
+          looks-are = all;
+          few-looks = omega (arith, all, few-of-pass (testsOf price) (priceOf price) (merges-pay price) xs);
           list-is = ap leftOf b ∙ sym (ap (λ (x : State). x .left) (h .end-same) ∙ ap (λ (x : Run). x .end .left) u);
           within = rw b (omega (arith, h .gap, h .within));
         }

@@ -53,6 +53,11 @@ pub record Passes (t : Tests) (w : Item → ℕ) (xs : List Item) : Type 0 where
   pub lower : weigh w (endItems t xs) + mergesIn (pass t xs .outcomes) ≤ weigh w xs
 
 module _ (t : Tests) (w : Item → ℕ) (pays : Pays t w) where
+  pub few-of-pass : (xs : List Item) → length (pass t xs .outcomes) ≤ 2 * length xs - 1
+  unfolding run pass
+  few-of-pass [] = omega arith
+  few-of-pass (x ∷ xs) = omega (arith, ends t w pays (2 * length (x ∷ xs)) (mark ∷ []) (x ∷ xs) tt (omega arith) .bound)
+
   pub passes : (xs : List Item) → Tidy xs → Passes t w xs
   unfolding run pass endItems
   passes [] h = record { rear = refl; few = omega arith; tidy = tt; fuses = none; kept = refl; lower = omega arith }
@@ -66,7 +71,7 @@ module _ (t : Tests) (w : Item → ℕ) (pays : Pays t w) where
       let d : Tidy (mark ∷ rest z) = rw (f .front) at (i .turns .tidy h) in
       record {
         rear = i .rear;
-        few = omega (arith, i .bound);
+        few = few-of-pass (x ∷ xs);
         tidy = d;
         fuses = f .behind;
         kept = omega (arith, k);

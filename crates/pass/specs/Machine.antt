@@ -1,7 +1,7 @@
 -- How two arrays and a cursor hold the carried list of `Pass`: a gap buffer. Places 0 to left - 1 are what comes before p; p stands at `right`;
 -- place 4097 is the rear mark. What each function of the crate asks of a machine, and what it gives.
 -- Assumes nothing.
-use Prim.Native.Nat.{ℕ, zero, suc, _+_, _-_, _≤_, _<_}
+use Prim.Native.Nat.{ℕ, zero, suc, _+_, _-_, _*_, _≤_, _<_}
 use mathlib.Core.Path.{_≡_}
 use mathlib.Core.Bool.{false, cond}
 use mathlib.Core.List.{List, [], _∷_}
@@ -112,8 +112,9 @@ pub record Ready (price : ℕ) (m : Machine) : Type 0 where
 abbrev pub lookOf : Step → Look
 lookOf s = record { outcome = s .outcome; next = stateOf (s .list) }
 
--- what a look gives
+-- what a look gives: it counts as one, and is the look of the definition
 pub record Looked (price : ℕ) (m : Machine) (s : Step) : Type 0 where
+  pub one : s .looks ≡ 1
   pub is : lookOf s ≡ lookAt (testsOf price) (leftOf m) (itemIn m (m .right)) (afterOf m)
   pub gap : s .list .left ≤ s .list .right
   pub within : s .list .right ≤ 4097
@@ -136,6 +137,7 @@ pub record Runnable (price : ℕ) (m : Machine) : Type 0 where
 -- a machine at the end of a pass
 pub record Ran (price : ℕ) (xs : List Item) (r : Passed) : Type 0 where
   pub looks-are : r .looks ≡ length (pass (testsOf price) xs .outcomes)
+  pub few-looks : r .looks ≤ 2 * length xs - 1
   pub list-is : leftOf (r .list) ≡ pass (testsOf price) xs .end .left
   pub within : r .list .left ≤ 4097
 

@@ -2,6 +2,7 @@
 -- the outcomes of the looks, their number, the list at the end, and the choice that this list stands for.
 -- Assumes nothing.
 use Prim.Native.Nat.{ℕ, zero, suc, _+_, _-_, _*_, _≤_}
+use mathlib.Core.Path.{_≡_}
 use mathlib.Core.Bool.{Bool, true, false, not, _&&_, cond}
 use mathlib.Core.List.{List, [], _∷_}
 use lib.Dec.{ltb}
@@ -12,7 +13,8 @@ use Rattle.format.specs.Limits.{versionMost, listMost}
 use Rattle.format.specs.Record.{recordsOf}
 use Rattle.format.specs.Meaning.{sizeOf, whole}
 use Rattle.format.specs.WellFormed.{Sized, Apart}
-use Rattle.choice.specs.Choice.{Bit, keep, store}
+use Rattle.area.specs.Area.{over}
+use Rattle.choice.specs.Choice.{Bit, keep, store, bitBytes}
 use Rattle.pass.specs.declared.Merge.the-variants.{Both, Before, After, Pair}
 use Rattle.pass.specs.declared.Outcome.{Outcome}
 use Rattle.pass.specs.declared.Outcome.the-variants.{Advance, Merged}
@@ -228,3 +230,9 @@ pub record Passable (price : ℕ) (list choice : List ℕ) : Type 0 where
   pub sized : Sized (recordsOf list)
   pub apart : Apart (recordsOf list)
   pub whole-most : whole (recordsOf list) ≤ versionMost
+
+-- what the call gives: the number of looks, which is at most 2n - 1, and the choice area, which begins with the pass's choice
+pub record PassIn (price : ℕ) (list before after : List ℕ) (r : ℕ) : Type 0 where
+  pub looks-are : r ≡ passLooks price (recordsOf list)
+  pub few-looks : r ≤ 2 * length (recordsOf list) - 1
+  pub area : after ≡ over (bitBytes (passChoice price (recordsOf list))) before

@@ -9,9 +9,10 @@ ghost use Rattle.format.specs.Record.{recordsOf};
 ghost use Rattle.format.specs.Meaning.{sizeOf};
 ghost use Rattle.choice.specs.Choice.{bitByte, bitBytes};
 ghost use Rattle.area.specs.Area.{over};
-ghost use Rattle.pass.specs.Pass.{Item, new, match, testsOf, outcomeAt, items, itemFor, bitFor, choiceOf, passLooks, passChoice, Passable};
+ghost use Rattle.pass.specs.Pass.{Item, new, match, testsOf, outcomeAt, items, itemFor, bitFor, choiceOf, Passable, PassIn};
 ghost use Rattle.pass.specs.Machine.{itemOf, cellItem, rightOf, endOf, goneOn, fusedBack, fusedAhead, Moved, Reaches, Carried, Ready, Looked, Loaded, Runnable, Ran, Covering};
 use format::Record;
+use price::DiskBytes;
 
 // A merge, by what becomes one with p, and the bytes fused: the size of the record made.
 pub enum Merge {
@@ -41,10 +42,11 @@ pub struct Machine {
     pub right: usize,
 }
 
-// What came of a look, with the list after it.
+// What came of a look, with the list after it, and what it counts.
 pub struct Step {
     pub outcome: Outcome,
     pub list: Machine,
+    pub looks: u32,
 }
 
 // The number of looks, with the list at the end.
@@ -54,26 +56,27 @@ pub struct Passed {
 }
 
 // Rules 1, 2 and 5 for a match of `size` bytes that stands after a new record of `before` bytes.
-fn after_new(price: u32, before: u32, size: u32, after: Cell) -> Outcome
-    requires { ⌜ (price ≤ 16711425) × (before + size + after .size ≤ 16777216) ⌝ }
-    ensures { λ r. ⌜ ((second : Item) → r ≡ outcomeAt (testsOf price) (new before) (match size) (cellItem after) second) ⌝ }
+fn after_new(price: DiskBytes, before: u32, size: u32, after: Cell) -> Outcome
+    requires { ⌜ (price .0 ≤ 16711425) × (before + size + after .size ≤ 16777216) ⌝ }
+    ensures { λ r. ⌜ ((second : Item) → r ≡ outcomeAt (testsOf (price .0)) (new before) (match size) (cellItem after) second) ⌝ }
 {
+    let bytes = price::disk(size);
     if after.kind == 0 {
-        if size < 2 * price {
+        if bytes.0 < 2 * price.0 {
             return Outcome::Merged(Merge::Both(before + size + after.size));
         }
         return Outcome::Advance;
     }
-    if size < price {
+    if bytes.0 < price.0 {
         return Outcome::Merged(Merge::Before(before + size));
     }
     Outcome::Advance
 }
 
 // The first of the five rules that applies to p, with the one before it, the one after it and the second after it.
-fn outcome_at(price: u32, before: Cell, p: Cell, after: Cell, second: Cell) -> Outcome
-    requires { ⌜ (price ≤ 16711425) × (before .size + p .size + after .size ≤ 16777216) ⌝ }
-    ensures { λ r. ⌜ r ≡ outcomeAt (testsOf price) (cellItem before) (cellItem p) (cellItem after) (cellItem second) ⌝ }
+fn outcome_at(price: DiskBytes, before: Cell, p: Cell, after: Cell, second: Cell) -> Outcome
+    requires { ⌜ (price .0 ≤ 16711425) × (before .size + p .size + after .size ≤ 16777216) ⌝ }
+    ensures { λ r. ⌜ r ≡ outcomeAt (testsOf (price .0)) (cellItem before) (cellItem p) (cellItem after) (cellItem second) ⌝ }
 {
     if p.kind != 1 {
         return Outcome::Advance;
@@ -82,7 +85,7 @@ fn outcome_at(price: u32, before: Cell, p: Cell, after: Cell, second: Cell) -> O
         return after_new(price, before.size, p.size, after);
     }
     if after.kind == 0 {
-        if p.size < price {
+        if price::disk(p.size).0 < price.0 {
             return Outcome::Merged(Merge::After(p.size + after.size));
         }
         return Outcome::Advance;
@@ -93,7 +96,7 @@ fn outcome_at(price: u32, before: Cell, p: Cell, after: Cell, second: Cell) -> O
     if second.kind == 0 {
         return Outcome::Advance;
     }
-    if p.size + after.size < price {
+    if price::disk(p.size + after.size).0 < price.0 {
         return Outcome::Merged(Merge::Pair(p.size + after.size));
     }
     Outcome::Advance
@@ -161,9 +164,9 @@ fn carried(machine: Machine, outcome: Outcome) -> Machine
 }
 
 // One look at p.
-fn look(machine: Machine, price: u32) -> Step
-    requires { ⌜ Ready price machine ⌝ }
-    ensures { λ r. ⌜ Looked price machine r ⌝ }
+fn look(machine: Machine, price: DiskBytes) -> Step
+    requires { ⌜ Ready (price .0) machine ⌝ }
+    ensures { λ r. ⌜ Looked (price .0) machine r ⌝ }
 {
     let left = machine.left;
     let right = machine.right;
@@ -172,6 +175,7 @@ fn look(machine: Machine, price: u32) -> Step
         return Step {
             outcome: Outcome::Advance,
             list,
+            looks: 1,
         };
     }
     let near = left - 1;
@@ -198,20 +202,24 @@ fn look(machine: Machine, price: u32) -> Step
     }
     let outcome = outcome_at(price, before, p, after, second);
     let list = carried(machine, outcome);
-    Step { outcome, list }
+    Step {
+        outcome,
+        list,
+        looks: 1,
+    }
 }
 
 // Looks until p is the rear, and counts them.
-fn run(machine: Machine, price: u32) -> Passed
-    requires { ⌜ Runnable price machine ⌝ }
-    ensures { λ r. ⌜ Ran price (rightOf machine) r ⌝ }
+fn run(machine: Machine, price: DiskBytes) -> Passed
+    requires { ⌜ Runnable (price .0) machine ⌝ }
+    ensures { λ r. ⌜ Ran (price .0) (rightOf machine) r ⌝ }
 {
     let mut list = machine;
     let mut looks: u32 = 0;
     while list.right < 4097 {
         let step = look(list, price);
         list = step.list;
-        looks += 1;
+        looks += step.looks;
     }
     Passed { looks, list }
 }
@@ -281,12 +289,12 @@ fn read_off(machine: Machine, list: &[u8], choice: &mut [u8])
 }
 
 // The pass over a list: writes its choice, one byte for each record, and returns the number of looks.
-pub fn pass_choice(price: u64, list: &[u8], choice: &mut [u8]) -> u32
-    requires { ⌜ Passable price (now list) (now choice) ⌝ }
-    ensures { λ r. ⌜ (r ≡ passLooks price (recordsOf (now (list .entry)))) × (now (choice .exit) ≡ over (bitBytes (passChoice price (recordsOf (now (list .entry))))) (now (choice .entry))) ⌝ }
+pub fn pass_choice(price: DiskBytes, list: &[u8], choice: &mut [u8]) -> u32
+    requires { ⌜ Passable (price .0) (now list) (now choice) ⌝ }
+    ensures { λ r. ⌜ PassIn (price .0) (now (list .entry)) (now (choice .entry)) (now (choice .exit)) r ⌝ }
 {
     let loaded = load(list);
-    let passed = run(loaded, price as u32);
+    let passed = run(loaded, price);
     read_off(passed.list, list, choice);
     passed.looks
 }

@@ -8,7 +8,7 @@ use Rattle.area.specs.Area.{over}
 use Rattle.pass.specs.Pass.{Item, choiceOf, passItems}
 use Rattle.pass.specs.Machine.{endOf}
 use Rattle.pass.proofs.Theorems.{pass-holds}
-use Rattle.pass.proofs.Passing.{runnable-of-loaded, looks-of-ran, end-of-ran}
+use Rattle.pass.proofs.Passing.{runnable-of-loaded, looks-of-ran, few-of-ran, end-of-ran}
 use borrow.Author.Needs.{needs}
 use Rattle.pass.proofs.pass_choice.Statement.{statement}
 use Rattle.pass.proofs.pass_choice.Tie as tie
@@ -16,19 +16,16 @@ use Rattle.pass.proofs.pass_choice.Tie as tie
 load-requires : tie.Need-load-requires
 load-requires c κs = c .before .before .pre .list-most
 
-cast-run : tie.Need-cast-run
-cast-run c = search needs
-
 run-requires : tie.Need-run-requires
-run-requires c κs = runnable-of-loaded (c .before .before .before .args .price) (recordsOf (c .before .before .before .args .list .now)) (c .load .result) (c .before .before .before .pre .price-most) (c .load .ensures) (c .before .before .before .pre .whole-most)
+run-requires c κs = runnable-of-loaded (c .before .before .before .args .price .0) (recordsOf (c .before .before .before .args .list .now)) (c .load .result) (c .before .before .before .pre .price-most) (c .load .ensures) (c .before .before .before .pre .whole-most)
 
 read-off-requires : tie.Need-read-off-requires
 read-off-requires c κs =
     let g = c .before .before .before .before .before .args in
     let rs = recordsOf (g .list .now) in
-    let same : endOf (c .before .run .result .list) ≡ passItems (g .price) rs =
-    end-of-ran (g .price) rs (c .before .before .load .result) (c .before .run .result) (c .before .before .load .ensures) (c .before .run .ensures) in
-    let choice = pass-holds (g .price) rs (c .before .before .before .before .before .pre .sized) (c .before .before .before .before .before .pre .apart) .choice in
+    let same : endOf (c .before .run .result .list) ≡ passItems (g .price .0) rs =
+    end-of-ran (g .price .0) rs (c .before .before .load .result) (c .before .run .result) (c .before .before .load .ensures) (c .before .run .ensures) in
+    let choice = pass-holds (g .price .0) rs (c .before .before .before .before .before .pre .sized) (c .before .before .before .before .before .pre .apart) .choice in
     record { within = c .before .run .ensures .within; list-most = c .before .before .before .before .before .pre .list-most; room = c .before .before .before .before .before .pre .room; covered = rw same choice }
 
 same-length : tie.Need-same-length
@@ -36,14 +33,18 @@ same-length c = search needs
 
 returns : tie.Need-returns
 returns c =
+    let u = c .before .before .before .before in
+    let l = u .before in
     let g = c .before .before .before .before .before .before .before .before .args in
     let rs = recordsOf (g .list .now) in
-    let same : endOf (c .before .before .before .before .run .result .list) ≡ passItems (g .price) rs =
-    end-of-ran (g .price) rs (c .before .before .before .before .before .load .result) (c .before .before .before .before .run .result) (c .before .before .before .before .before .load .ensures) (c .before .before .before .before .run .ensures) in (
-      looks-of-ran (g .price) rs (c .before .before .before .before .before .load .result) (c .before .before .before .before .run .result) (c .before .before .before .before .before .load .ensures) (c .before .before .before .before .run .ensures),
-      c .before .before .read-off .ensures ∙ ap (λ (l : List Item). over (bitBytes (choiceOf rs l)) (g .choice .now)) same,
-    )
+    let same : endOf (u .run .result .list) ≡ passItems (g .price .0) rs =
+    end-of-ran (g .price .0) rs (l .load .result) (u .run .result) (l .load .ensures) (u .run .ensures) in
+    record {
+      looks-are = looks-of-ran (g .price .0) rs (l .load .result) (u .run .result) (l .load .ensures) (u .run .ensures);
+      few-looks = few-of-ran (g .price .0) rs (l .load .result) (u .run .result) (l .load .ensures) (u .run .ensures);
+      area = c .before .before .read-off .ensures ∙ ap (λ (x : List Item). over (bitBytes (choiceOf rs x)) (g .choice .now)) same;
+    }
 
 pub pass-choice-spec : {M : Type 1} → statement M
 pass-choice-spec =
-    tie.close (tie.spec load-requires cast-run run-requires read-off-requires same-length returns)
+    tie.close (tie.spec load-requires run-requires read-off-requires same-length returns)
