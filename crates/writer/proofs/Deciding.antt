@@ -29,10 +29,10 @@ pub decided-refused : {q : Ruling} {x : Refusal} {r : Answer} (p : ℕ) (list v 
 decided-refused p list v c looks before e f = record { answered = rw e f; areas-after = rw e }
 
 -- a choice area of the same length takes the first one's place
-pub finishable : {p : ℕ} {list v choice area block : List ℕ} → p ≤ 16711425 → length list ≤ listMost → length v ≤ versionMost → whole (recordsOf list) ≡ length v
-    → length list / 12 ≤ length choice → length list ≤ length area → length v ≤ length block → (choice′ : List ℕ) → length choice′ ≡ length choice
+pub finishable : {p : ℕ} {list v area block : List ℕ} (choice choice′ : List ℕ) → p ≤ 16711425 → length list ≤ listMost → length v ≤ versionMost → whole (recordsOf list) ≡ length v
+    → length list / 12 ≤ length choice → length list ≤ length area → length v ≤ length block → length choice′ ≡ length choice
     → Finishable p list choice′ v area block
-finishable h l m w c a b choice′ k =
+finishable choice choice′ h l m w c a b k =
     record {
       price-most = h;
       writable = record { list-most = l; version-most = m; in-version = omega (arith, w); in-choice = omega (arith, c, k); in-area = a; in-block = b };
