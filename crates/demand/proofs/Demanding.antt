@@ -1,203 +1,132 @@
--- Demand 3 holds of what the contracts of partition, rebuild and pass say, in areas long enough for them.
+-- Demand 3 holds of any four calls that meet their contracts, in areas long enough for them.
 -- Assumes nothing.
-use Prim.Native.Nat.{ℕ, _*_, _≤_}
+use Prim.Native.Nat.{ℕ, _*_, _/_, _≤_}
 use native.Mathlib.Omega.{arith}
 use mathlib.Core.Path.{_≡_, refl, sym, _∙_, ap}
-use mathlib.Core.Bool.{Bool, true, false, cond}
+use mathlib.Core.Bool.{true}
 use mathlib.Core.List.{List}
-use lib.Dec.{leb}
-use lib.ListN.{length, take}
-use borrow.Author.Tests.{leb-true, leb-false}
+use lib.ListN.{length}
 use Rattle.format.specs.declared.Record.{Record}
 use Rattle.format.specs.declared.Figures.{Figures}
 use Rattle.format.specs.declared.Answer.{Answer}
-use Rattle.format.specs.declared.Ruling.{Ruling}
+use Rattle.format.specs.declared.Answer.the-variants.{Accepted}
 use Rattle.format.specs.declared.Ruling.the-variants.{Fine}
+use Rattle.format.specs.Refusal.{Accepts, figuresIn}
 use Rattle.format.specs.Record.{recordsOf, encode}
-use Rattle.format.specs.Meaning.{whole, stored, blockOf, rebuilt}
+use Rattle.format.specs.Meaning.{whole, blockOf, rebuilt}
 use Rattle.format.proofs.Encoding.{records-encode}
-use Rattle.format.proofs.Rebuilding.{length-block, whole-agrees}
-use Rattle.price.specs.Price.{priceOf, cost}
+use Rattle.price.specs.Price.{priceFits, priceOf}
 use Rattle.area.specs.Area.{over}
-use Rattle.area.proofs.Filling.{front, front-room}
-use Rattle.choice.specs.Choice.{Bit, bitBytes, listOf}
+use Rattle.choice.specs.Choice.{Bit, listOf, keepAll}
 use Rattle.choice.proofs.Least.{least-is-least, least-fits}
-use Rattle.writer.specs.Divide.{figures, Divided}
-use Rattle.writer.proofs.Dividing.{divided-answer, divided-choice, divided-list, divided-block, list-handed-on, list-room as listed-room}
-use Rattle.admit.specs.Admit.{admitRuling, divideRuling}
-use Rattle.admit.proofs.Admitting.{Sound, sound-of-fine, fine-of-longer, store-most}
+use Rattle.admit.specs.Admit.{findings, partitionRuling, LongEnough}
+use Rattle.admit.proofs.Admitting.{Sound, sound-of-fine, admitted-of-fine, findings-of-long}
+use Rattle.writer.specs.Decide.{figures, laid}
+use Rattle.writer.proofs.Deciding.{decided-answer, decided-areas, list-handed-on, block-handed-on}
 use Rattle.rebuild.specs.Rebuild.{rebuildRuling, lengthOnly, Rebuilt}
-use Rattle.rebuild.proofs.Accepting.{inputs-written, rebuild-fine}
 use Rattle.least.specs.Partition.{leastOf, Partitioned}
-use Rattle.pass.specs.Pass.{passChoice, passLooks}
-use Rattle.pass.proofs.Theorems.{pass-holds}
-use Rattle.linear.specs.Linear.{PassedOver}
-use Rattle.demand.specs.Demand.{Areas, Demand, shorter, figuresIn, demandRuling}
-use Rattle.demand.proofs.Written.{well-formed-written, count-written, readable-written, rebuilt-written, admitted-again, least-again, list-again}
+use Rattle.pass.proofs.Theorems.{PassHolds, pass-holds}
+use Rattle.linear.specs.Linear.{passChoiceOf, passLooksOf}
+use Rattle.demand.specs.Demand.{Call, Calls, writtenList, writtenBlock, Made, Room, Demand, DemandThree}
+use Rattle.demand.proofs.Written.{whole-written, rebuilt-written, rebuild-accepts, partition-accepts, least-again, list-again}
 
-shorter-left : (a b : ℕ) → shorter a b ≤ a
-shorter-left a b = go (leb a b) refl
-  where
-    go : (t : Bool) → leb a b ≡ t → cond t a b ≤ a
-    go true e = omega arith
-    go false e = omega (arith, leb-false a b e)
+accepts-of : {a : Answer} {x : Figures} → a ≡ Accepted x → Accepts a
+accepts-of e = rw e tt
 
-shorter-right : (a b : ℕ) → shorter a b ≤ b
-shorter-right a b = go (leb a b) refl
-  where
-    go : (t : Bool) → leb a b ≡ t → cond t a b ≤ b
-    go true e = leb-true a b e
-    go false e = omega arith
+module _ (e f : ℕ) (list v st : List ℕ) (x : Calls) (fine : findings e f list v st ≡ Fine) (room : Room list v x) (made : Made e f list v st x) where
+  fits : priceFits e f ≡ true
+  fits = admitted-of-fine e f list v st (length list / 12) (length list) (length v) fine .0
 
--- the figures of a call whose ruling is fine
-divided-figures : (q : Ruling) (p : ℕ) (list v choice area block : List ℕ) (c : List Bit) (looks : ℕ) (r : Answer) (choice′ area′ block′ : List ℕ)
-    → Divided q p list v choice area block c looks r choice′ area′ block′ → q ≡ Fine → figuresIn r ≡ figures p (listOf (recordsOf list) c) looks
-divided-figures q p list v choice area block c looks r choice′ area′ block′ d fine =
-    ap figuresIn (divided-answer q p list v choice area block c looks r choice′ area′ block′ d fine)
+  sound : Sound list v st (length list / 12) (length list) (length v)
+  sound = sound-of-fine list v st (length list / 12) (length list) (length v) (admitted-of-fine e f list v st (length list / 12) (length list) (length v) fine .1)
 
--- in areas of which the shortest of each kind is long enough
-module _ (e f : ℕ) (list v st : List ℕ) (x : Areas) (fine : demandRuling e f list v st x ≡ Fine) where
-  c-first : shorter (length (x .choice)) (shorter (length (x .choice2)) (length (x .choice3))) ≤ length (x .choice)
-  c-first = shorter-left (length (x .choice)) (shorter (length (x .choice2)) (length (x .choice3)))
+  -- partition
+  first-fine : partitionRuling e f list v st (x .first .before) ≡ Fine
+  first-fine = findings-of-long e f list v st (x .first .before) (room .first) ∙ fine
 
-  c-rest : shorter (length (x .choice)) (shorter (length (x .choice2)) (length (x .choice3))) ≤ shorter (length (x .choice2)) (length (x .choice3))
-  c-rest = shorter-right (length (x .choice)) (shorter (length (x .choice2)) (length (x .choice3)))
+  first-answer : x .first .answer ≡ Accepted (figures (priceOf e f) (listOf (recordsOf list) (leastOf e f list)) 0)
+  first-answer = decided-answer (made .first) first-fine
 
-  a-first : shorter (length (x .list)) (shorter (length (x .list2)) (length (x .list3))) ≤ length (x .list)
-  a-first = shorter-left (length (x .list)) (shorter (length (x .list2)) (length (x .list3)))
+  whole-least : whole (listOf (recordsOf list) (leastOf e f list)) ≡ length v
+  whole-least = whole-written sound (leastOf e f list) (least-fits (priceOf e f) (recordsOf list))
 
-  a-rest : shorter (length (x .list)) (shorter (length (x .list2)) (length (x .list3))) ≤ shorter (length (x .list2)) (length (x .list3))
-  a-rest = shorter-right (length (x .list)) (shorter (length (x .list2)) (length (x .list3)))
+  list-is : writtenList (x .first) ≡ encode (listOf (recordsOf list) (leastOf e f list))
+  list-is = list-handed-on (made .first) first-fine (ap (λ (a : Answer). 12 * figuresIn a .entries) first-answer)
 
-  b-first : shorter (shorter (length (x .block)) (length (x .out))) (shorter (length (x .block2)) (length (x .block3))) ≤ shorter (length (x .block)) (length (x .out))
-  b-first = shorter-left (shorter (length (x .block)) (length (x .out))) (shorter (length (x .block2)) (length (x .block3)))
+  block-is : writtenBlock (x .first) ≡ blockOf (listOf (recordsOf list) (leastOf e f list)) v
+  block-is = block-handed-on (made .first) first-fine (ap (λ (a : Answer). figuresIn a .stored) first-answer) (omega (arith, whole-least))
 
-  b-rest : shorter (shorter (length (x .block)) (length (x .out))) (shorter (length (x .block2)) (length (x .block3))) ≤ shorter (length (x .block2)) (length (x .block3))
-  b-rest = shorter-right (shorter (length (x .block)) (length (x .out))) (shorter (length (x .block2)) (length (x .block3)))
+  -- rebuild of what it wrote
+  rebuilt-made : Rebuilt (encode (listOf (recordsOf list) (leastOf e f list))) (blockOf (listOf (recordsOf list) (leastOf e f list)) v) st (x .rebuilt .before) (x .rebuilt .answer) (x .rebuilt .after)
+  rebuilt-made = rw (list-is, block-is) at (made .rebuilt)
 
-  longer : (c a b : ℕ) → shorter (length (x .choice)) (shorter (length (x .choice2)) (length (x .choice3))) ≤ c
-      → shorter (length (x .list)) (shorter (length (x .list2)) (length (x .list3))) ≤ a
-      → shorter (shorter (length (x .block)) (length (x .out))) (shorter (length (x .block2)) (length (x .block3))) ≤ b → admitRuling e f list v st c a b ≡ Fine
-  longer c a b = fine-of-longer e f list v st _ _ _ c a b fine
+  rebuilt-fine : rebuildRuling (encode (listOf (recordsOf list) (leastOf e f list))) (blockOf (listOf (recordsOf list) (leastOf e f list)) v) st (x .rebuilt .before) ≡ Fine
+  rebuilt-fine = rebuild-accepts sound (leastOf e f list) (least-fits (priceOf e f) (recordsOf list)) (x .rebuilt .before) (room .rebuilt)
 
-  -- the first partition, and the pass, are admitted
-  pub first-fine : divideRuling e f list v st (x .choice) (x .list) (x .block) ≡ Fine
-  first-fine = longer (length (x .choice)) (length (x .list)) (length (x .block)) c-first a-first (omega (arith, b-first, shorter-left (length (x .block)) (length (x .out))))
+  rebuilt-answer : x .rebuilt .answer ≡ Accepted (lengthOnly (length v))
+  rebuilt-answer =
+      rw rebuilt-fine at (rebuilt-made .answered)
+      ∙ ap (λ (l : List Record). Accepted (lengthOnly (whole l))) (records-encode (listOf (recordsOf list) (leastOf e f list)))
+      ∙ ap (λ (n : ℕ). Accepted (lengthOnly n)) whole-least
 
-  pub pass-fine : divideRuling e f list v st (x .choice3) (x .list3) (x .block3) ≡ Fine
-  pass-fine =
-      longer (length (x .choice3)) (length (x .list3)) (length (x .block3))
-      (omega (arith, c-rest, shorter-right (length (x .choice2)) (length (x .choice3))))
-      (omega (arith, a-rest, shorter-right (length (x .list2)) (length (x .list3))))
-      (omega (arith, b-rest, shorter-right (length (x .block2)) (length (x .block3))))
-
-  sound : Sound e f list v st (length (x .choice)) (length (x .list)) (length (x .block))
-  sound = sound-of-fine e f list v st (length (x .choice)) (length (x .list)) (length (x .block)) first-fine
-
-  second-sound : Sound e f list v st (length (x .choice2)) (length (x .list2)) (length (x .block2))
-  second-sound =
-      sound-of-fine e f list v st (length (x .choice2)) (length (x .list2)) (length (x .block2))
-      (longer (length (x .choice2)) (length (x .list2)) (length (x .block2))
-      (omega (arith, c-rest, shorter-left (length (x .choice2)) (length (x .choice3))))
-      (omega (arith, a-rest, shorter-left (length (x .list2)) (length (x .list3))))
-      (omega (arith, b-rest, shorter-left (length (x .block2)) (length (x .block3)))))
-
-  -- the second partition is admitted
-  pub second-fine : divideRuling e f (encode (listOf (recordsOf list) (leastOf e f list))) v st (x .choice2) (x .list2) (x .block2) ≡ Fine
-  second-fine =
-      admitted-again e f list v st _ _ _ second-sound (leastOf e f list) (least-fits (priceOf e f) (recordsOf list)) (length (x .choice2)) (length (x .list2)) (length (x .block2))
-      (second-sound .in-choice) (second-sound .in-area) (second-sound .in-block)
-
-  whole-made : whole (listOf (recordsOf list) (leastOf e f list)) ≡ length v
-  whole-made = whole-agrees st (listOf (recordsOf list) (leastOf e f list)) v (well-formed-written e f list v st _ _ _ sound (leastOf e f list) (least-fits (priceOf e f) (recordsOf list)) .agrees)
-
-  out-sound : Sound e f list v st (length (x .choice)) (length (x .list)) (length (x .out))
-  out-sound =
-      sound-of-fine e f list v st (length (x .choice)) (length (x .list)) (length (x .out))
-      (longer (length (x .choice)) (length (x .list)) (length (x .out)) c-first a-first (omega (arith, b-first, shorter-right (length (x .block)) (length (x .out)))))
-
-  -- rebuild is accepted
-  pub rebuild-is-fine : rebuildRuling (encode (listOf (recordsOf list) (leastOf e f list))) (blockOf (listOf (recordsOf list) (leastOf e f list)) v) st (x .out) ≡ Fine
-  rebuild-is-fine =
+  rebuilt-after : x .rebuilt .after ≡ over v (x .rebuilt .before)
+  rebuilt-after =
       let l = listOf (recordsOf list) (leastOf e f list) in
-      rebuild-fine (encode l) (blockOf l v) st (x .out)
-      (inputs-written l (blockOf l v) st (count-written e f list v st _ _ _ sound (leastOf e f list) (least-fits (priceOf e f) (recordsOf list))) (store-most e f list v st _ _ _ sound)
-      (readable-written e f list v st _ _ _ sound (leastOf e f list) (least-fits (priceOf e f) (recordsOf list))))
-      (rw (records-encode l, whole-made) (out-sound .in-block))
+      rw rebuilt-fine at (rebuilt-made .area-after)
+      ∙ ap (λ (k : List Record). over (rebuilt k (blockOf l v) st) (x .rebuilt .before)) (records-encode l)
+      ∙ ap (λ (y : List ℕ). over y (x .rebuilt .before)) (rebuilt-written sound (leastOf e f list) (least-fits (priceOf e f) (recordsOf list)))
 
-  -- what partition answers and writes
-  module _ (after : Areas) (r : Answer)
-      (first : Partitioned e f list v st (x .choice) (x .list) (x .block) r (after .choice) (after .list) (after .block)) where
-    pub first-figures : figuresIn r ≡ figures (priceOf e f) (listOf (recordsOf list) (leastOf e f list)) 0
-    first-figures = divided-figures _ (priceOf e f) list v (x .choice) (x .list) (x .block) (leastOf e f list) 0 r (after .choice) (after .list) (after .block) first first-fine
+  -- partition of what it wrote
+  again-made : Partitioned e f (encode (listOf (recordsOf list) (leastOf e f list))) v st (x .again .before) (x .again .answer) (x .again .after)
+  again-made = rw list-is at (made .again)
 
-    first-list : after .list ≡ over (encode (listOf (recordsOf list) (leastOf e f list))) (x .list)
-    first-list = divided-list _ (priceOf e f) list v (x .choice) (x .list) (x .block) (leastOf e f list) 0 r (after .choice) (after .list) (after .block) first first-fine
+  again-room : LongEnough (encode (listOf (recordsOf list) (leastOf e f list))) v (x .again .before)
+  again-room = rw list-is at (room .again)
 
-    first-block : after .block ≡ over (blockOf (listOf (recordsOf list) (leastOf e f list)) v) (x .block)
-    first-block = divided-block _ (priceOf e f) list v (x .choice) (x .list) (x .block) (leastOf e f list) 0 r (after .choice) (after .list) (after .block) first first-fine
+  again-fine : partitionRuling e f (encode (listOf (recordsOf list) (leastOf e f list))) v st (x .again .before) ≡ Fine
+  again-fine = partition-accepts sound (leastOf e f list) (least-fits (priceOf e f) (recordsOf list)) e f fits (x .again .before) again-room
 
-    list-length : 12 * figuresIn r .entries ≡ 12 * length (listOf (recordsOf list) (leastOf e f list))
-    list-length = ap (λ (y : Figures). 12 * y .entries) first-figures
+  again-answer : x .again .answer ≡ Accepted (figures (priceOf e f) (listOf (recordsOf list) (leastOf e f list)) 0)
+  again-answer = decided-answer again-made again-fine ∙ ap (λ (l : List Record). Accepted (figures (priceOf e f) l 0)) (list-again e f list)
 
-    block-length : figuresIn r .stored ≡ length (blockOf (listOf (recordsOf list) (leastOf e f list)) v)
-    block-length =
-        ap (λ (y : Figures). y .stored) first-figures
-        ∙ sym (length-block (listOf (recordsOf list) (leastOf e f list)) v (omega (arith, whole-made)))
+  again-after : let l = listOf (recordsOf list) (leastOf e f list) in x .again .after ≡ laid (keepAll l) l v (x .again .before)
+  again-after =
+      let l = listOf (recordsOf list) (leastOf e f list) in
+      decided-areas again-made again-fine
+      ∙ ap (λ (c : List Bit). laid c (listOf (recordsOf (encode l)) (leastOf e f (encode l))) v (x .again .before)) (least-again e f list)
+      ∙ ap (λ (k : List Record). laid (keepAll l) k v (x .again .before)) (list-again e f list)
 
-    pub list-room : 12 * figuresIn r .entries ≤ length (after .list)
-    list-room = listed-room _ (priceOf e f) list v (x .choice) (x .list) (x .block) (leastOf e f list) 0 r (after .choice) (after .list) (after .block) first first-fine _ list-length
+  -- the pass
+  pass-fine : partitionRuling e f list v st (x .passed .before) ≡ Fine
+  pass-fine = findings-of-long e f list v st (x .passed .before) (room .passed) ∙ fine
 
-    pub block-room : figuresIn r .stored ≤ length (after .block)
-    block-room = omega (arith, block-length, ap length first-block, front-room (blockOf (listOf (recordsOf list) (leastOf e f list)) v) (x .block))
+  pass-answer : x .passed .answer ≡ Accepted (figures (priceOf e f) (listOf (recordsOf list) (passChoiceOf e f list)) (passLooksOf e f list))
+  pass-answer = decided-answer (made .passed .decided) pass-fine
 
-    -- the written list and block, as they are handed on
-    pub list-made : (k : ℕ) → k ≡ 12 * figuresIn r .entries → take k (after .list) ≡ encode (listOf (recordsOf list) (leastOf e f list))
-    list-made k q = list-handed-on _ (priceOf e f) list v (x .choice) (x .list) (x .block) (leastOf e f list) 0 r (after .choice) (after .list) (after .block) first first-fine k (q ∙ list-length)
+  holds : PassHolds (priceOf e f) (recordsOf list)
+  holds = pass-holds (priceOf e f) (recordsOf list) (sound .well-formed .sized) (sound .well-formed .apart)
 
-    pub block-made : (k : ℕ) → k ≡ figuresIn r .stored → take k (after .block) ≡ blockOf (listOf (recordsOf list) (leastOf e f list)) v
-    block-made k q = rw first-block (front k (blockOf (listOf (recordsOf list) (leastOf e f list)) v) (x .block) (q ∙ block-length))
+  demand-of-calls : Demand e f list v x
+  demand-of-calls =
+      record {
+        choice = leastOf e f list;
+        first-accepted = accepts-of first-answer;
+        first-written = decided-areas (made .first) first-fine;
+        first-figures = ap figuresIn first-answer;
+        is-least = least-is-least (priceOf e f) (recordsOf list);
+        rebuilt-accepted = accepts-of rebuilt-answer;
+        rebuilt-figures = ap figuresIn rebuilt-answer;
+        rebuilt-version = rebuilt-after;
+        again-accepted = accepts-of again-answer;
+        again-figures = ap figuresIn (again-answer ∙ sym first-answer);
+        again-written = again-after;
+        passed-accepted = accepts-of pass-answer;
+        passed-figures = ap figuresIn pass-answer;
+        passed-written = decided-areas (made .passed .decided) pass-fine;
+        no-less = rw (first-answer, pass-answer) (least-is-least (priceOf e f) (recordsOf list) .cheapest (passChoiceOf e f list) (holds .choice));
+        no-more = rw pass-answer (holds .lower);
+        few-looks = made .passed .few-looks;
+      }
 
-    -- the statement, of any answers and areas that meet the four contracts
-    module _ (r₂ r₃ r₄ : Answer)
-        (rebuilds : Rebuilt (encode (listOf (recordsOf list) (leastOf e f list))) (blockOf (listOf (recordsOf list) (leastOf e f list)) v) st (x .out) r₂ (after .out))
-        (second : Partitioned e f (encode (listOf (recordsOf list) (leastOf e f list))) v st (x .choice2) (x .list2) (x .block2) r₃ (after .choice2) (after .list2) (after .block2))
-        (passes : PassedOver e f list v st (x .choice3) (x .list3) (x .block3) r₄ (after .choice3) (after .list3) (after .block3)) where
-      rebuilt-figures : figuresIn r₂ ≡ lengthOnly (length v)
-      rebuilt-figures =
-          ap figuresIn (rw rebuild-is-fine at (rebuilds .answered))
-          ∙ ap (λ (k : List Record). lengthOnly (whole k)) (records-encode (listOf (recordsOf list) (leastOf e f list))) ∙ ap lengthOnly whole-made
-
-      rebuilt-area : after .out ≡ over v (x .out)
-      rebuilt-area =
-          let l = listOf (recordsOf list) (leastOf e f list) in
-          rw rebuild-is-fine at (rebuilds .area-after)
-          ∙ ap (λ (k : List Record). over (rebuilt k (blockOf l v) st) (x .out)) (records-encode l)
-          ∙ ap (λ (y : List ℕ). over y (x .out)) (rebuilt-written e f list v st _ _ _ sound (leastOf e f list) (least-fits (priceOf e f) (recordsOf list)))
-
-      pub demand-holds : Demand e f list v (leastOf e f list) (record { first = figuresIn r; rebuilt = figuresIn r₂; second = figuresIn r₃; passed = figuresIn r₄ }) x after
-      demand-holds =
-          let p : ℕ = priceOf e f in
-          let l : List Record = listOf (recordsOf list) (leastOf e f list) in
-          let holds = pass-holds p (recordsOf list) (sound .well-formed .sized) (sound .well-formed .apart) in
-          let pass-figures : figuresIn r₄ ≡ figures p (listOf (recordsOf list) (passChoice p (recordsOf list))) (passLooks p (recordsOf list)) = divided-figures _ p list v (x .choice3) (x .list3) (x .block3) (passChoice p (recordsOf list)) (passLooks p (recordsOf list)) r₄ (after .choice3) (after .list3) (after .block3) passes pass-fine in
-          record {
-            choice-written = divided-choice _ p list v (x .choice) (x .list) (x .block) (leastOf e f list) 0 r (after .choice) (after .list) (after .block) first first-fine;
-            list-written = first-list;
-            block-written = first-block;
-            figures-given = first-figures;
-            is-least = least-is-least p (recordsOf list);
-            rebuild-answers = rebuilt-figures;
-            rebuild-makes = rebuilt-area;
-            again-answers = divided-figures _ p (encode l) v (x .choice2) (x .list2) (x .block2) (leastOf e f (encode l)) 0 r₃ (after .choice2) (after .list2) (after .block2) second second-fine ∙ ap (λ (k : List Record). figures p k 0) (list-again e f list) ∙ sym first-figures;
-            again-choice = divided-choice _ p (encode l) v (x .choice2) (x .list2) (x .block2) (leastOf e f (encode l)) 0 r₃ (after .choice2) (after .list2) (after .block2) second second-fine ∙ ap (λ (c : List Bit). over (bitBytes c) (x .choice2)) (least-again e f list);
-            again-list = divided-list _ p (encode l) v (x .choice2) (x .list2) (x .block2) (leastOf e f (encode l)) 0 r₃ (after .choice2) (after .list2) (after .block2) second second-fine ∙ ap (λ (k : List Record). over (encode k) (x .list2)) (list-again e f list);
-            again-block = divided-block _ p (encode l) v (x .choice2) (x .list2) (x .block2) (leastOf e f (encode l)) 0 r₃ (after .choice2) (after .list2) (after .block2) second second-fine ∙ ap (λ (k : List Record). over (blockOf k v) (x .block2)) (list-again e f list);
-            pass-answers = pass-figures;
-            pass-choice = divided-choice _ p list v (x .choice3) (x .list3) (x .block3) (passChoice p (recordsOf list)) (passLooks p (recordsOf list)) r₄ (after .choice3) (after .list3) (after .block3) passes pass-fine;
-            pass-list = divided-list _ p list v (x .choice3) (x .list3) (x .block3) (passChoice p (recordsOf list)) (passLooks p (recordsOf list)) r₄ (after .choice3) (after .list3) (after .block3) passes pass-fine;
-            pass-block = divided-block _ p list v (x .choice3) (x .list3) (x .block3) (passChoice p (recordsOf list)) (passLooks p (recordsOf list)) r₄ (after .choice3) (after .list3) (after .block3) passes pass-fine;
-            pass-no-less = omega (arith, ap (λ (y : Figures). y .cost) first-figures, ap (λ (y : Figures). y .cost) pass-figures, least-is-least p (recordsOf list) .cheapest (passChoice p (recordsOf list)) (holds .choice));
-            pass-no-more = omega (arith, ap (λ (y : Figures). y .cost) pass-figures, holds .lower);
-            few-looks = omega (arith, ap (λ (y : Figures). y .looks) pass-figures, holds .few);
-          }
+pub demand-three : DemandThree
+demand-three = demand-of-calls

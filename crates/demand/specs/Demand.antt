@@ -1,91 +1,114 @@
--- Demand 3 of the mission: one statement on partition, rebuild and pass together, with a field for each of its sentences.
+-- Demand 3 of the mission: one statement on the calls partition, rebuild and pass together.
+--
+-- In order: the four calls; that each is that call, by its own contract; room for each; the statement, a field for each sentence; the demand,
+-- closed: for every price, list, version and store, and for all answers and areas.
 -- Assumes nothing.
 use Prim.Native.Nat.{ℕ, _*_, _-_, _≤_}
 use mathlib.Core.Path.{_≡_}
-use mathlib.Core.Bool.{cond}
 use mathlib.Core.List.{List}
-use lib.Dec.{leb}
-use lib.ListN.{length}
-use Rattle.format.specs.declared.Figures.{Figures}
+use lib.ListN.{length, take}
 use Rattle.format.specs.declared.Answer.{Answer}
-use Rattle.format.specs.declared.Answer.the-variants.{Accepted, Refused}
-use Rattle.format.specs.declared.Ruling.{Ruling}
-use Rattle.format.specs.declared.Ruling.the-variants.{Fine, Stop}
-use Rattle.format.specs.Record.{recordsOf, encode}
-use Rattle.format.specs.Meaning.{blockOf}
+use Rattle.format.specs.declared.Ruling.the-variants.{Fine}
+use Rattle.format.specs.Refusal.{Accepts, figuresIn}
+use Rattle.format.specs.Record.{recordsOf}
 use Rattle.price.specs.Price.{priceOf, cost}
-use Rattle.area.specs.Area.{over}
-use Rattle.choice.specs.Choice.{Bit, bitBytes, listOf, IsLeast, keepAll}
-use Rattle.writer.specs.Divide.{figures}
-use Rattle.admit.specs.Admit.{admitRuling}
-use Rattle.rebuild.specs.Rebuild.{lengthOnly}
-use Rattle.pass.specs.Pass.{passChoice, passLooks}
+use Rattle.area.specs.Area.{over, Areas}
+use Rattle.choice.specs.Choice.{Bit, listOf, IsLeast, keepAll}
+use Rattle.admit.specs.Admit.{findings, LongEnough}
+use Rattle.writer.specs.Decide.{figures, laid}
+use Rattle.rebuild.specs.Rebuild.{lengthOnly, Rebuilt}
+use Rattle.least.specs.Partition.{Partitioned}
+use Rattle.linear.specs.Linear.{passChoiceOf, passLooksOf, PassMade}
 use Rattle.demand.specs.declared.Answers.{Answers}
-use Rattle.demand.specs.declared.Demonstrated.{Demonstrated}
-use Rattle.demand.specs.declared.Demonstrated.the-variants as demonstrated
 
--- the areas: for the first partition, for rebuild, for the second partition, and for the pass
-pub record Areas : Type 0 where
-  pub choice : List ℕ
-  pub list : List ℕ
-  pub block : List ℕ
-  pub out : List ℕ
-  pub choice2 : List ℕ
-  pub list2 : List ℕ
-  pub block2 : List ℕ
-  pub choice3 : List ℕ
-  pub list3 : List ℕ
-  pub block3 : List ℕ
+-- a call of partition or pass: its areas before it, its answer, its areas after it
+pub record Call : Type 0 where
+  pub before : Areas
+  pub answer : Answer
+  pub after : Areas
 
--- the statement, for the price and the list handed in, the choice c that partition writes, what the calls answer (x), and the areas before
--- and after them
-pub record Demand (e f : ℕ) (list v : List ℕ) (c : List Bit) (x : Answers) (before after : Areas) : Type 0 where
+-- a call of rebuild, with its one area
+pub record Rebuilding : Type 0 where
+  pub before : List ℕ
+  pub answer : Answer
+  pub after : List ℕ
+
+-- partition; rebuild of what it wrote; partition of what it wrote, again; and pass, given what partition was first given
+pub record Calls : Type 0 where
+  pub first : Call
+  pub rebuilt : Rebuilding
+  pub again : Call
+  pub passed : Call
+
+-- the list and the stored block that a call wrote: so many bytes of its areas as its answer says
+abbrev pub writtenList : Call → List ℕ
+writtenList x = take (12 * figuresIn (x .answer) .entries) (x .after .list)
+
+abbrev pub writtenBlock : Call → List ℕ
+writtenBlock x = take (figuresIn (x .answer) .stored) (x .after .block)
+
+-- each of the four is that call: its contract holds of its answer and its areas
+pub record Made (e f : ℕ) (list v st : List ℕ) (x : Calls) : Type 0 where
+  pub first : Partitioned e f list v st (x .first .before) (x .first .answer) (x .first .after)
+  pub rebuilt : Rebuilt (writtenList (x .first)) (writtenBlock (x .first)) st (x .rebuilt .before) (x .rebuilt .answer) (x .rebuilt .after)
+  pub again : Partitioned e f (writtenList (x .first)) v st (x .again .before) (x .again .answer) (x .again .after)
+  pub passed : PassMade e f list v st (x .passed .before) (x .passed .answer) (x .passed .after)
+
+-- "in areas long enough for them": each call's areas for what that call is given
+pub record Room (list v : List ℕ) (x : Calls) : Type 0 where
+  pub first : LongEnough list v (x .first .before)
+  pub rebuilt : length v ≤ length (x .rebuilt .before)
+  pub again : LongEnough (writtenList (x .first)) v (x .again .before)
+  pub passed : LongEnough list v (x .passed .before)
+
+-- what is said of the four calls, for the price and the list handed in
+pub record Demand (e f : ℕ) (list v : List ℕ) (x : Calls) : Type 0 where
+  -- the choice that partition writes
+  pub choice : List Bit
+  -- "Where document 01 finds no fault in list, version, store, price and areas, partition accepts them"
+  pub first-accepted : Accepts (x .first .answer)
   -- "The list it writes is the one that document 01 makes of the choice it writes"
-  pub choice-written : after .choice ≡ over (bitBytes c) (before .choice)
-  pub list-written : after .list ≡ over (encode (listOf (recordsOf list) c)) (before .list)
-  pub block-written : after .block ≡ over (blockOf (listOf (recordsOf list) c) v) (before .block)
+  pub first-written : x .first .after ≡ laid choice (listOf (recordsOf list) choice) v (x .first .before)
   -- "the entries, stored bytes and cost it gives are that list's"
-  pub figures-given : x .first ≡ figures (priceOf e f) (listOf (recordsOf list) c) 0
+  pub first-figures : figuresIn (x .first .answer) ≡ figures (priceOf e f) (listOf (recordsOf list) choice) 0
   -- "Every other choice .. makes a list that costs at least as much. Where one costs exactly as much, partition's choice is the one that keeps at
   -- the first record where the two differ"
-  pub is-least : IsLeast (priceOf e f) (recordsOf list) c
+  pub is-least : IsLeast (priceOf e f) (recordsOf list) choice
   -- "Rebuild makes the version again from the written list, its stored block and the store"
-  pub rebuild-answers : x .rebuilt ≡ lengthOnly (length v)
-  pub rebuild-makes : after .out ≡ over v (before .out)
+  pub rebuilt-accepted : Accepts (x .rebuilt .answer)
+  pub rebuilt-figures : figuresIn (x .rebuilt .answer) ≡ lengthOnly (length v)
+  pub rebuilt-version : x .rebuilt .after ≡ over v (x .rebuilt .before)
   -- "The written list, handed to partition again .., comes back as the same list with the same stored block and cost"
-  pub again-answers : x .second ≡ x .first
-  pub again-choice : after .choice2 ≡ over (bitBytes (keepAll (listOf (recordsOf list) c))) (before .choice2)
-  pub again-list : after .list2 ≡ over (encode (listOf (recordsOf list) c)) (before .list2)
-  pub again-block : after .block2 ≡ over (blockOf (listOf (recordsOf list) c) v) (before .block2)
+  pub again-accepted : Accepts (x .again .answer)
+  pub again-figures : figuresIn (x .again .answer) ≡ figuresIn (x .first .answer)
+  pub again-written : x .again .after ≡ laid (keepAll (listOf (recordsOf list) choice)) (listOf (recordsOf list) choice) v (x .again .before)
   -- "The pass, look by look the one that document 01 writes out and given what partition was first given"
-  pub pass-answers : x .passed ≡ figures (priceOf e f) (listOf (recordsOf list) (passChoice (priceOf e f) (recordsOf list))) (passLooks (priceOf e f) (recordsOf list))
-  pub pass-choice : after .choice3 ≡ over (bitBytes (passChoice (priceOf e f) (recordsOf list))) (before .choice3)
-  pub pass-list : after .list3 ≡ over (encode (listOf (recordsOf list) (passChoice (priceOf e f) (recordsOf list)))) (before .list3)
-  pub pass-block : after .block3 ≡ over (blockOf (listOf (recordsOf list) (passChoice (priceOf e f) (recordsOf list))) v) (before .block3)
-  -- ".. costs no less than partition's list and no more than the list first handed in"
-  pub pass-no-less : x .first .cost ≤ x .passed .cost
-  pub pass-no-more : x .passed .cost ≤ cost (priceOf e f) (recordsOf list)
+  pub passed-accepted : Accepts (x .passed .answer)
+  pub passed-figures : figuresIn (x .passed .answer) ≡ figures (priceOf e f) (listOf (recordsOf list) (passChoiceOf e f list)) (passLooksOf e f list)
+  pub passed-written : x .passed .after ≡ laid (passChoiceOf e f list) (listOf (recordsOf list) (passChoiceOf e f list)) v (x .passed .before)
+  -- "costs no less than partition's list and no more than the list first handed in"
+  pub no-less : figuresIn (x .first .answer) .cost ≤ figuresIn (x .passed .answer) .cost
+  pub no-more : figuresIn (x .passed .answer) .cost ≤ cost (priceOf e f) (recordsOf list)
   -- "It counts at most 2n - 1 looks for n records, none for n = 0"
-  pub few-looks : x .passed .looks ≤ 2 * length (recordsOf list) - 1
+  pub few-looks : figuresIn (x .passed .answer) .looks ≤ 2 * length (recordsOf list) - 1
 
--- the shorter of two lengths
-abbrev pub shorter : ℕ → ℕ → ℕ
-shorter a b = cond (leb a b) a b
+-- demand 3: where nothing is found in price, list, version and store, it holds of any four calls in areas long enough for them
+abbrev pub DemandThree : Type 0
+DemandThree = (e f : ℕ) (list v st : List ℕ) (x : Calls) → findings e f list v st ≡ Fine → Room list v x → Made e f list v st x → Demand e f list v x
 
--- the figures of an accepted call
-abbrev pub figuresIn : Answer → Figures
-figuresIn (Accepted x) = x
-figuresIn (Refused r) = lengthOnly 0
+-- ---- the calls as one function makes them
 
--- partition's checks, for the shortest area of each kind
-abbrev pub demandRuling : ℕ → ℕ → List ℕ → List ℕ → List ℕ → Areas → Ruling
-demandRuling e f list v st x =
-    admitRuling e f list v st
-    (shorter (length (x .choice)) (shorter (length (x .choice2)) (length (x .choice3))))
-    (shorter (length (x .list)) (shorter (length (x .list2)) (length (x .list3))))
-    (shorter (shorter (length (x .block)) (length (x .out))) (shorter (length (x .block2)) (length (x .block3))))
+-- for their answers, and the areas before and after them
+abbrev pub callsOf : Answers → Areas → Areas → List ℕ → List ℕ → Areas → Areas → Areas → Areas → Calls
+callsOf r first first′ out out′ again again′ passed passed′ =
+    record {
+      first = record { before = first; answer = r .first; after = first′ };
+      rebuilt = record { before = out; answer = r .rebuilt; after = out′ };
+      again = record { before = again; answer = r .again; after = again′ };
+      passed = record { before = passed; answer = r .passed; after = passed′ };
+    }
 
--- "Where document 01 finds no fault .., partition accepts them", and all that follows; else the refusal, and every area as it was
-abbrev pub Told : ℕ → ℕ → List ℕ → List ℕ → List ℕ → Areas → Areas → Ruling → Demonstrated → Type 0
-Told e f list v st before after Fine r = (x : Answers) × (c : List Bit) × (r ≡ demonstrated.Held x) × Demand e f list v c x before after
-Told e f list v st before after (Stop y) r = (r ≡ demonstrated.Refused y) × (after ≡ before)
+-- each is the call that it should be, and demand 3 holds of them
+pub record Demonstrated (e f : ℕ) (list v st : List ℕ) (x : Calls) : Type 0 where
+  pub made : Made e f list v st x
+  pub holds : findings e f list v st ≡ Fine → Room list v x → Demand e f list v x

@@ -24,7 +24,7 @@ pub fn measure(e: u32, f: u32, list: &[u8]) -> Answer
     let Walked::Through(t) = walked else {
         return Answer::Refused(walk::refusal_of(walked));
     };
-    let cost = price::cost_of(p, t.entries, t.stored);
+    let cost = price::cost_of(p, t.entries, price::disk(t.stored));
     Answer::Accepted(Figures {
         cost: cost.0,
         entries: t.entries,

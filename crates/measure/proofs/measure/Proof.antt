@@ -75,24 +75,30 @@ returns-3 c =
     let stopped = stop-of-stopped (walkRuling (checks scope.Sizes [] []) (g .list .now)) (recordsOf (g .list .now)) (c .before .enum-told2 .given .0 .0) (sym (c .before .before .before .walk .ensures) ∙ c .before .enum-told2 .given .1) in
     ap Refused (c .refusal-of .ensures ∙ ap refusalOf (c .before .enum-told2 .given .1)) ∙ sym (measured-stop (g .e) (g .f) (g .list .now) ((fits-of-at (g .e) (g .f) (c .before .before .before .before .before .before .before .before .priced .given .0 .0) (sym (c .before .before .before .before .before .before .before .before .before .before .price-of .ensures) ∙ c .before .before .before .before .before .before .before .before .priced .given .1)) .0) (sym (c .before .before .before .before .before .before .list-fits .ensures) ∙ not-false _ (c .before .before .before .before .before .if1 .left)) _ stopped)
 
+disk-requires : tie.Need-disk-requires
+disk-requires c κs = search needs
+
 cost-of-requires : tie.Need-cost-of-requires
 cost-of-requires c κs =
-    let g = c .before .before .before .before .before .before .before .before .before .before .before .before .args in
-    let through = fine-of-through (walkRuling (checks scope.Sizes [] []) (g .list .now)) (recordsOf (g .list .now)) (c .before .walked .given .0 .0) (sym (c .before .before .before .walk .ensures) ∙ c .before .walked .given .1) in
-    let count = (counted-of-fits (g .list .now) (sym (c .before .before .before .before .before .before .list-fits .ensures) ∙ not-false _ (c .before .before .before .before .before .if1 .left))) .count-most in
-    (omega (arith, (fits-of-at (g .e) (g .f) (c .before .before .before .before .before .before .before .before .priced .given .0 .0) (sym (c .before .before .before .before .before .before .before .before .before .before .price-of .ensures) ∙ c .before .before .before .before .before .before .before .before .priced .given .1)) .1, price-most (g .e) (g .f) ((fits-of-at (g .e) (g .f) (c .before .before .before .before .before .before .before .before .priced .given .0 .0) (sym (c .before .before .before .before .before .before .before .before .before .before .price-of .ensures) ∙ c .before .before .before .before .before .before .before .before .priced .given .1)) .0)), omega (arith, count, ap (λ (t : Totals). t .entries) (through .1)))
+    let g = c .before .before .before .before .before .before .before .before .before .before .before .before .before .args in
+    let through = fine-of-through (walkRuling (checks scope.Sizes [] []) (g .list .now)) (recordsOf (g .list .now)) (c .before .before .walked .given .0 .0) (sym (c .before .before .before .before .walk .ensures) ∙ c .before .before .walked .given .1) in
+    let count = (counted-of-fits (g .list .now) (sym (c .before .before .before .before .before .before .before .list-fits .ensures) ∙ not-false _ (c .before .before .before .before .before .before .if1 .left))) .count-most in
+    let price = fits-of-at (g .e) (g .f) (c .before .before .before .before .before .before .before .before .before .priced .given .0 .0) (sym (c .before .before .before .before .before .before .before .before .before .before .before .price-of .ensures) ∙ c .before .before .before .before .before .before .before .before .before .priced .given .1) in (
+      omega (arith, price .1, price-most (g .e) (g .f) (price .0)),
+      omega (arith, count, ap (λ (t : Totals). t .entries) (through .1)),
+      rw (c .disk .ensures) (omega arith),
+    )
 
 returns-4 : tie.Need-returns-4
 returns-4 c =
-    let g = c .before .before .before .before .before .before .before .before .before .before .before .before .before .args in
-    let through = fine-of-through (walkRuling (checks scope.Sizes [] []) (g .list .now)) (recordsOf (g .list .now)) (c .before .before .walked .given .0 .0) (sym (c .before .before .before .before .walk .ensures) ∙ c .before .before .walked .given .1) in
-    let price = (fits-of-at (g .e) (g .f) (c .before .before .before .before .before .before .before .before .before .priced .given .0 .0) (sym (c .before .before .before .before .before .before .before .before .before .before .before .price-of .ensures) ∙ c .before .before .before .before .before .before .before .before .before .priced .given .1)) in
-    let l = recordsOf (g .list .now) in
+    let g = c .before .before .before .before .before .before .before .before .before .before .before .before .before .before .args in
+    let through = fine-of-through (walkRuling (checks scope.Sizes [] []) (g .list .now)) (recordsOf (g .list .now)) (c .before .before .before .walked .given .0 .0) (sym (c .before .before .before .before .before .walk .ensures) ∙ c .before .before .before .walked .given .1) in
+    let price = fits-of-at (g .e) (g .f) (c .before .before .before .before .before .before .before .before .before .before .priced .given .0 .0) (sym (c .before .before .before .before .before .before .before .before .before .before .before .before .price-of .ensures) ∙ c .before .before .before .before .before .before .before .before .before .before .priced .given .1) in
     let n = ap (λ (t : Totals). t .entries) (through .1) in
     let s = ap (λ (t : Totals). t .stored) (through .1) in
     let w = ap (λ (t : Totals). t .whole) (through .1) in
-    let k = rw (price .1, n, s) at (c .cost-of .ensures) in
-    cc (measured-fine (g .e) (g .f) (g .list .now) (price .0) (sym (c .before .before .before .before .before .before .before .list-fits .ensures) ∙ not-false _ (c .before .before .before .before .before .before .if1 .left)) (through .0))
+    let k = rw (price .1, n, c .before .disk .ensures, s) at (c .cost-of .ensures) in
+    cc (measured-fine (g .e) (g .f) (g .list .now) (price .0) (sym (c .before .before .before .before .before .before .before .before .list-fits .ensures) ∙ not-false _ (c .before .before .before .before .before .before .before .if1 .left)) (through .0))
 
 pub measure-spec : {M : Type 1} → statement M
 measure-spec =
@@ -114,5 +120,6 @@ measure-spec =
     enum-told-2
     refusal-of-requires
     returns-3
+    disk-requires
     cost-of-requires
     returns-4)
