@@ -16,18 +16,18 @@ use Rattle.format.specs.Record.{recordsOf, encode}
 use Rattle.format.specs.Meaning.{whole, blockOf, rebuilt}
 use Rattle.format.proofs.Encoding.{records-encode}
 use Rattle.price.specs.Price.{priceFits, priceOf}
-use Rattle.area.specs.Area.{over}
+use Rattle.area.specs.Area.{over, Areas}
 use Rattle.choice.specs.Choice.{Bit, listOf, keepAll}
 use Rattle.choice.proofs.Least.{least-is-least, least-fits}
 use Rattle.admit.specs.Admit.{findings, partitionRuling, LongEnough}
 use Rattle.admit.proofs.Admitting.{Sound, sound-of-fine, admitted-of-fine, findings-of-long}
 use Rattle.writer.specs.Decide.{figures, laid}
-use Rattle.writer.proofs.Deciding.{decided-answer, decided-areas, list-handed-on, block-handed-on}
+use Rattle.writer.proofs.Deciding.{decided-answer, decided-areas, list-handed-on, block-handed-on, block-within}
 use Rattle.rebuild.specs.Rebuild.{rebuildRuling, lengthOnly, Rebuilt}
 use Rattle.least.specs.Partition.{leastOf, Partitioned}
 use Rattle.pass.proofs.Theorems.{PassHolds, pass-holds}
 use Rattle.linear.specs.Linear.{passChoiceOf, passLooksOf}
-use Rattle.demand.specs.Demand.{Call, Calls, writtenList, writtenBlock, Made, Room, Demand, DemandThree}
+use Rattle.demand.specs.Demand.{Call, Calls, writtenList, writtenBlock, Made, Room, Demand, DemandThree, Demonstrated}
 use Rattle.demand.proofs.Written.{whole-written, rebuilt-written, rebuild-accepts, partition-accepts, least-again, list-again}
 
 accepts-of : {a : Answer} {x : Figures} → a ≡ Accepted x → Accepts a
@@ -130,3 +130,17 @@ module _ (e f : ℕ) (list v st : List ℕ) (x : Calls) (fine : findings e f lis
 
 pub demand-three : DemandThree
 demand-three = demand-of-calls
+
+-- the bytes of the stored block that partition says it wrote are there to be handed on
+pub block-there : (e f : ℕ) (list v st : List ℕ) {before : Areas} {r : Answer} {after : Areas} → Partitioned e f list v st before r after
+    → figuresIn r .stored ≤ length (after .block)
+block-there e f list v st {before} d = block-within d in-version
+  where
+    in-version : partitionRuling e f list v st before ≡ Fine → whole (listOf (recordsOf list) (leastOf e f list)) ≤ length v
+    in-version fine =
+        let k = admitted-of-fine e f list v st (length (before .choice)) (length (before .list)) (length (before .block)) fine .1 in
+        let s = sound-of-fine list v st (length (before .choice)) (length (before .list)) (length (before .block)) k in
+        omega (arith, whole-written s (leastOf e f list) (least-fits (priceOf e f) (recordsOf list)))
+
+pub demonstrated : {e f : ℕ} {list v st : List ℕ} {x : Calls} → Made e f list v st x → Demonstrated e f list v st x
+demonstrated {e} {f} {list} {v} {st} {x} made = record { made = made; holds = λ fine room. demand-three e f list v st x fine room made }

@@ -1,38 +1,40 @@
-// Demand 3 of the mission as one function: it makes partition, rebuild, partition again and pass on lent areas, and its contract is the statement.
-ghost use mathlib.Core.Path.{_≡_};
-ghost use Rattle.demand.specs.Demand.{shorter, figuresIn, demandRuling, Told};
-use admit::Admitted;
+// Demand 3 of the mission as one function: it makes partition, rebuild, partition again and pass on lent areas, and returns their answers as
+// they are. Its contract says that each is that call, and that the statement holds of them.
+ghost use Rattle.area.specs.Area.{areas};
+ghost use Rattle.rebuild.specs.Rebuild.{Rebuilt};
+ghost use Rattle.least.specs.Partition.{Partitioned};
+ghost use Rattle.demand.specs.Demand.{callsOf, Demonstrated};
 use demand::Answers;
-use demand::Demonstrated;
 use format::Answer;
-use format::Figures;
 
-fn shortest(a: usize, b: usize) -> usize
-    ensures { λ r. ⌜ r ≡ shorter a b ⌝ }
-{
-    if a <= b {
-        return a;
-    }
-    b
+// What rebuild and partition answered.
+pub struct Both {
+    pub rebuilt: Answer,
+    pub again: Answer,
 }
 
-// The figures of an accepted call.
-fn figures_of(a: Answer) -> Figures
-    ensures { λ r. ⌜ r ≡ figuresIn a ⌝ }
+// Rebuild and partition, each given the list that was written, and what else it needs.
+fn hand_on<'a>(
+    e: u32,
+    f: u32,
+    list: &[u8],
+    block: &'a [u8],
+    version: &[u8],
+    store: &'a [u8],
+    out: &mut [u8],
+    choice2: &mut [u8],
+    area2: &mut [u8],
+    block2: &mut [u8],
+) -> Both
+    ensures { λ r. ⌜ Rebuilt (now (list .entry)) (now (block .entry)) (now (store .entry)) (now (out .entry)) (r .rebuilt) (now (out .exit)) ⌝ }
+    ensures { λ r. ⌜ Partitioned e f (now (list .entry)) (now (version .entry)) (now (store .entry)) (areas (now (choice2 .entry)) (now (area2 .entry)) (now (block2 .entry))) (r .again) (areas (now (choice2 .exit)) (now (area2 .exit)) (now (block2 .exit))) ⌝ }
 {
-    let Answer::Accepted(figures) = a else {
-        return Figures {
-            cost: 0,
-            entries: 0,
-            stored: 0,
-            looks: 0,
-            whole: 0,
-        };
-    };
-    figures
+    let rebuilt = rebuild::rebuild(list, block, store, out);
+    let again = least::partition(e, f, list, version, store, choice2, area2, block2);
+    Both { rebuilt, again }
 }
 
-// The four calls, one after the other, where the inputs have no fault and each area is long enough; else the refusal, and nothing is written.
+// The four calls, one after the other. What a refused partition wrote is an empty list with an empty block.
 pub fn demonstrate(
     e: u32,
     f: u32,
@@ -49,38 +51,32 @@ pub fn demonstrate(
     choice3: &mut [u8],
     area3: &mut [u8],
     block3: &mut [u8],
-) -> Demonstrated
-    ensures { λ r. ⌜ Told e f (now (list .entry)) (now (version .entry)) (now (store .entry)) (record { choice = now (choice .entry); list = now (area .entry); block = now (block .entry); out = now (out .entry); choice2 = now (choice2 .entry); list2 = now (area2 .entry); block2 = now (block2 .entry); choice3 = now (choice3 .entry); list3 = now (area3 .entry); block3 = now (block3 .entry) }) (record { choice = now (choice .exit); list = now (area .exit); block = now (block .exit); out = now (out .exit); choice2 = now (choice2 .exit); list2 = now (area2 .exit); block2 = now (block2 .exit); choice3 = now (choice3 .exit); list3 = now (area3 .exit); block3 = now (block3 .exit) }) (demandRuling e f (now (list .entry)) (now (version .entry)) (now (store .entry)) (record { choice = now (choice .entry); list = now (area .entry); block = now (block .entry); out = now (out .entry); choice2 = now (choice2 .entry); list2 = now (area2 .entry); block2 = now (block2 .entry); choice3 = now (choice3 .entry); list3 = now (area3 .entry); block3 = now (block3 .entry) })) r ⌝ }
+) -> Answers
+    ensures { λ r. ⌜ Demonstrated e f (now (list .entry)) (now (version .entry)) (now (store .entry)) (callsOf r (areas (now (choice .entry)) (now (area .entry)) (now (block .entry))) (areas (now (choice .exit)) (now (area .exit)) (now (block .exit))) (now (out .entry)) (now (out .exit)) (areas (now (choice2 .entry)) (now (area2 .entry)) (now (block2 .entry))) (areas (now (choice2 .exit)) (now (area2 .exit)) (now (block2 .exit))) (areas (now (choice3 .entry)) (now (area3 .entry)) (now (block3 .entry))) (areas (now (choice3 .exit)) (now (area3 .exit)) (now (block3 .exit)))) ⌝ }
 {
-    let c = shortest(choice.len(), shortest(choice2.len(), choice3.len()));
-    let a = shortest(area.len(), shortest(area2.len(), area3.len()));
-    let b = shortest(
-        shortest(block.len(), out.len()),
-        shortest(block2.len(), block3.len()),
-    );
-    let admitted = admit::admit(e, f, list, version, store, c, a, b);
-    let Admitted::At(_price) = admitted else {
-        return Demonstrated::Refused(admit::refusal_of(admitted));
-    };
-    let first = figures_of(least::partition(e, f, list, version, store, choice, area, block));
-    let n = 12 * format::index(first.entries);
-    let m = format::index(first.stored);
-    let rebuilt = figures_of(rebuild::rebuild(&area[0..n], &block[0..m], store, out));
-    let second = figures_of(least::partition(
+    let first = least::partition(e, f, list, version, store, choice, area, block);
+    let figures = format::figures_of(first);
+    let n = 12 * format::index(figures.entries);
+    let m = format::index(figures.stored);
+    let both = hand_on(
         e,
         f,
         &area[0..n],
+        &block[0..m],
         version,
         store,
+        out,
         choice2,
         area2,
         block2,
-    ));
-    let passed = figures_of(linear::pass(e, f, list, version, store, choice3, area3, block3));
-    Demonstrated::Held(Answers {
+    );
+    let rebuilt = both.rebuilt;
+    let again = both.again;
+    let passed = linear::pass(e, f, list, version, store, choice3, area3, block3);
+    Answers {
         first,
         rebuilt,
-        second,
+        again,
         passed,
-    })
+    }
 }

@@ -2,7 +2,7 @@
 -- Assumes nothing.
 use Prim.Native.Nat.{ℕ, _*_, _/_, _≤_}
 use native.Mathlib.Omega.{arith}
-use mathlib.Core.Path.{_≡_, sym, _∙_, ap}
+use mathlib.Core.Path.{_≡_, refl, sym, _∙_, ap}
 use mathlib.Core.List.{List}
 use lib.ListN.{length, take}
 use Rattle.format.specs.declared.Record.{Record}
@@ -11,6 +11,7 @@ use Rattle.format.specs.declared.Ruling.the-variants.{Fine, Stop}
 use Rattle.format.specs.declared.Refusal.{Refusal}
 use Rattle.format.specs.declared.Answer.{Answer}
 use Rattle.format.specs.declared.Answer.the-variants.{Accepted, Refused}
+use Rattle.format.specs.Refusal.{figuresIn}
 use Rattle.format.specs.Limits.{listMost, versionMost}
 use Rattle.format.specs.Record.{recordsOf, encode}
 use Rattle.format.specs.Meaning.{whole, stored, blockOf}
@@ -80,3 +81,19 @@ module _ {q : Ruling} {p : ℕ} {list v : List ℕ} {c : List Bit} {looks : ℕ}
 
     pub block-room : n ≤ length (after .block)
     block-room = rw decided-areas (omega (arith, whole-block, front-room (blockOf (listOf (recordsOf list) c) v) (before .block)))
+
+-- so many bytes as an answer says are there, refused or not
+module _ {q : Ruling} {p : ℕ} {list v : List ℕ} {c : List Bit} {looks : ℕ} {before : Areas} {r : Answer} {after : Areas} (d : Decided q p list v c looks before r after) where
+  pub list-within : 12 * figuresIn r .entries ≤ length (after .list)
+  list-within = go q refl
+    where
+      go : (k : Ruling) → q ≡ k → 12 * figuresIn r .entries ≤ length (after .list)
+      go Fine e = list-room d e (ap (λ (a : Answer). 12 * figuresIn a .entries) (decided-answer d e))
+      go (Stop x) e = rw (d .answered, e) (omega arith)
+
+  pub block-within : (q ≡ Fine → whole (listOf (recordsOf list) c) ≤ length v) → figuresIn r .stored ≤ length (after .block)
+  block-within in-version = go q refl
+    where
+      go : (k : Ruling) → q ≡ k → figuresIn r .stored ≤ length (after .block)
+      go Fine e = block-room d e (ap (λ (a : Answer). figuresIn a .stored) (decided-answer d e)) (in-version e)
+      go (Stop x) e = rw (d .answered, e) (omega arith)
