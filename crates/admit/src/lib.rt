@@ -31,14 +31,7 @@ fn areas_fit(list: &[u8], version: &[u8], c: usize, a: usize, b: usize) -> bool
 }
 
 // Checks 2, 3, 9, then record by record 4 to 8, then the short end, where areas of lengths c, a and b are lent.
-pub fn admit(
-    list: &[u8],
-    version: &[u8],
-    store: &[u8],
-    c: usize,
-    a: usize,
-    b: usize,
-) -> Walked
+pub fn admit(list: &[u8], version: &[u8], store: &[u8], c: usize, a: usize, b: usize) -> Walked
     ensures { λ r. ⌜ r ≡ walked (admitRuling (now (list .entry)) (now (version .entry)) (now (store .entry)) c a b) (recordsOf (now (list .entry))) ⌝ }
 {
     if !lengths_fit(version, store) {

@@ -8,9 +8,10 @@ use borrow.Author.Tests.{lt-ltb, le-ltb}
 use Rattle.format.specs.declared.Answer.{Answer}
 use Rattle.format.specs.declared.Ruling.{Ruling}
 use Rattle.choice.specs.Choice.{Bit}
-use Rattle.writer.specs.Divide.{answerFor, choiceFor, listFor, blockFor, Divided}
-use Rattle.controller.specs.Layout.{toldOf, given, Answered, lentArea}
-use Rattle.controller.specs.Divides.{Divides}
+use Rattle.area.specs.Area.{Areas}
+use Rattle.writer.specs.Decide.{decidedAnswer, decidedAreas, Decided}
+use Rattle.controller.specs.Layout.{toldOf, given, Answered, lent}
+use Rattle.controller.specs.Calls.{CallGiven}
 
 pub answered-short : (a : Answer) (area : List ℕ) → length area < 32 → Answered a area 9 area
 answered-short a area h = let e = lt-ltb (length area) 32 h in record { returned = rw e; area-after = rw e }
@@ -20,30 +21,23 @@ answered-given a b area r after h e f g =
     let k = le-ltb (length area) 32 h in
     record { returned = rw k (f ∙ ap (λ (x : Answer). toldOf x .number) e); area-after = rw k (g ∙ ap (λ (x : Answer). given x area) e) }
 
-pub lent-short : (area after before : List ℕ) → length area < 32 → before ≡ lentArea area after before
-lent-short area after before h = rw (lt-ltb (length area) 32 h)
+pub lent-short : {A : Type 0} (answer : List ℕ) (after before : A) → length answer < 32 → before ≡ lent answer after before
+lent-short answer after before h = rw (lt-ltb (length answer) 32 h)
 
-pub lent-given : (area after before : List ℕ) → 32 ≤ length area → after ≡ lentArea area after before
-lent-given area after before h = rw (le-ltb (length area) 32 h)
+pub lent-given : {A : Type 0} (answer : List ℕ) (after before : A) → 32 ≤ length answer → after ≡ lent answer after before
+lent-given answer after before h = rw (le-ltb (length answer) 32 h)
 
--- a call that divides, not made, and made
-pub divides-short : (q : Ruling) (p : ℕ) (list v choice area block answer : List ℕ) (c : List Bit) (looks : ℕ) → length answer < 32
-    → Divides q p list v choice area block answer c looks 9 choice area block answer
-divides-short q p list v choice area block answer c looks h =
+-- a call that decides for a choice, not made, and made
+pub call-short : (q : Ruling) (p : ℕ) (list v : List ℕ) (c : List Bit) (looks : ℕ) (before : Areas) (answer : List ℕ) → length answer < 32
+    → CallGiven q p list v c looks before answer 9 before answer
+call-short q p list v c looks before answer h =
+    record { answered = answered-short (decidedAnswer q p list c looks) answer h; areas-after = lent-short answer (decidedAreas q list v c before) before h }
+
+pub call-given : {q : Ruling} {p : ℕ} {list v : List ℕ} {c : List Bit} {looks : ℕ} {before : Areas} {answer : List ℕ} {a : Answer} {r : ℕ} {after : Areas} {answer′ : List ℕ}
+    → 32 ≤ length answer → Decided q p list v c looks before a after → r ≡ toldOf a .number → answer′ ≡ given a answer
+    → CallGiven q p list v c looks before answer r after answer′
+call-given {q} {p} {list} {v} {c} {looks} {before} {answer} {a} {r} {after} {answer′} h d e f =
     record {
-      answered = answered-short (answerFor q p list c looks) answer h;
-      choice-after = lent-short answer (choiceFor q c choice) choice h;
-      area-after = lent-short answer (listFor q list c area) area h;
-      block-after = lent-short answer (blockFor q list v c block) block h;
-    }
-
-pub divides-given : (q : Ruling) (p : ℕ) (list v choice area block answer : List ℕ) (c : List Bit) (looks : ℕ) (a : Answer) (r : ℕ) (choice′ area′ block′ answer′ : List ℕ)
-    → 32 ≤ length answer → Divided q p list v choice area block c looks a choice′ area′ block′ → r ≡ toldOf a .number → answer′ ≡ given a answer
-    → Divides q p list v choice area block answer c looks r choice′ area′ block′ answer′
-divides-given q p list v choice area block answer c looks a r choice′ area′ block′ answer′ h d e f =
-    record {
-      answered = answered-given (answerFor q p list c looks) a answer r answer′ h (d .answered) e f;
-      choice-after = d .choice-after ∙ lent-given answer (choiceFor q c choice) choice h;
-      area-after = d .area-after ∙ lent-given answer (listFor q list c area) area h;
-      block-after = d .block-after ∙ lent-given answer (blockFor q list v c block) block h;
+      answered = answered-given (decidedAnswer q p list c looks) a answer r answer′ h (d .answered) e f;
+      areas-after = d .areas-after ∙ lent-given answer (decidedAreas q list v c before) before h;
     }

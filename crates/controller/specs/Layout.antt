@@ -43,6 +43,6 @@ pub record Answered (a : Answer) (area : List ℕ) (r : ℕ) (after : List ℕ) 
   pub returned : r ≡ cond (ltb (length area) 32) 9 (toldOf a .number)
   pub area-after : after ≡ cond (ltb (length area) 32) area (given a area)
 
--- another area after the call: as it was where the answer area is under 32 bytes
-abbrev pub lentArea : List ℕ → List ℕ → List ℕ → List ℕ
-lentArea area after before = cond (ltb (length area) 32) before after
+-- other areas after the call: as they were where the answer area is under 32 bytes
+abbrev pub lent : {A : Type 0} → List ℕ → A → A → A
+lent answer after before = cond (ltb (length answer) 32) before after

@@ -1,2 +1,2 @@
 pub mod Layout
-pub mod Divides
+pub mod Calls

@@ -4,10 +4,11 @@
 ghost use mathlib.Core.Path.{_≡_};
 ghost use Prim.Native.Nat.{_≤_};
 ghost use lib.ListN.{length};
+ghost use Rattle.area.specs.Area.{areas};
 ghost use Rattle.measure.specs.Measure.{measured};
 ghost use Rattle.rebuild.specs.Rebuild.{checked, rebuildAnswer, rebuildArea};
-ghost use Rattle.controller.specs.Layout.{toldOf, layout, given, Answered, lentArea};
-ghost use Rattle.controller.specs.Divides.{PartitionGiven, PassGiven};
+ghost use Rattle.controller.specs.Layout.{toldOf, layout, given, Answered, lent};
+ghost use Rattle.controller.specs.Calls.{PartitionGiven, PassGiven};
 use format::Answer;
 
 // The numbers of an answer, in the order of the answer area.
@@ -124,7 +125,7 @@ pub extern "C" fn rebuild<'a>(
     answer: &mut [u8],
 ) -> u32
     ensures { λ r. ⌜ Answered (rebuildAnswer (now (list .entry)) (now (block .entry)) (now (store .entry)) (now (area .entry))) (now (answer .entry)) r (now (answer .exit)) ⌝ }
-    ensures { λ _. ⌜ now (area .exit) ≡ lentArea (now (answer .entry)) (rebuildArea (now (list .entry)) (now (block .entry)) (now (store .entry)) (now (area .entry))) (now (area .entry)) ⌝ }
+    ensures { λ _. ⌜ now (area .exit) ≡ lent (now (answer .entry)) (rebuildArea (now (list .entry)) (now (block .entry)) (now (store .entry)) (now (area .entry))) (now (area .entry)) ⌝ }
 {
     if answer.len() < 32 {
         return 9;
@@ -145,7 +146,7 @@ pub extern "C" fn partition(
     block: &mut [u8],
     answer: &mut [u8],
 ) -> u32
-    ensures { λ r. ⌜ PartitionGiven e f (now (list .entry)) (now (version .entry)) (now (store .entry)) (now (choice .entry)) (now (area .entry)) (now (block .entry)) (now (answer .entry)) r (now (choice .exit)) (now (area .exit)) (now (block .exit)) (now (answer .exit)) ⌝ }
+    ensures { λ r. ⌜ PartitionGiven e f (now (list .entry)) (now (version .entry)) (now (store .entry)) (areas (now (choice .entry)) (now (area .entry)) (now (block .entry))) (now (answer .entry)) r (areas (now (choice .exit)) (now (area .exit)) (now (block .exit))) (now (answer .exit)) ⌝ }
 {
     if answer.len() < 32 {
         return 9;
@@ -169,7 +170,7 @@ pub extern "C" fn pass(
     block: &mut [u8],
     answer: &mut [u8],
 ) -> u32
-    ensures { λ r. ⌜ PassGiven e f (now (list .entry)) (now (version .entry)) (now (store .entry)) (now (choice .entry)) (now (area .entry)) (now (block .entry)) (now (answer .entry)) r (now (choice .exit)) (now (area .exit)) (now (block .exit)) (now (answer .exit)) ⌝ }
+    ensures { λ r. ⌜ PassGiven e f (now (list .entry)) (now (version .entry)) (now (store .entry)) (areas (now (choice .entry)) (now (area .entry)) (now (block .entry))) (now (answer .entry)) r (areas (now (choice .exit)) (now (area .exit)) (now (block .exit))) (now (answer .exit)) ⌝ }
 {
     if answer.len() < 32 {
         return 9;

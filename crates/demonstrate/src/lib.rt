@@ -19,7 +19,7 @@ fn hand_on<'a>(
     f: u32,
     list: &[u8],
     block: &'a [u8],
-    version: &[u8],
+    version: &'a [u8],
     store: &'a [u8],
     out: &mut [u8],
     choice2: &mut [u8],

@@ -1,8 +1,9 @@
 -- `controller::partition` meets its contract. Assumes nothing.
 use Rattle.price.specs.Price.{priceOf}
-use Rattle.admit.specs.Admit.{divideRuling}
+use Rattle.area.specs.Area.{areas}
+use Rattle.admit.specs.Admit.{partitionRuling}
 use Rattle.least.specs.Partition.{leastOf}
-use Rattle.controller.proofs.Answering.{divides-short, divides-given}
+use Rattle.controller.proofs.Answering.{call-short, call-given}
 use borrow.Author.Needs.{needs}
 use Rattle.controller.proofs.partition.Statement.{statement}
 use Rattle.controller.proofs.partition.Tie as tie
@@ -10,7 +11,8 @@ use Rattle.controller.proofs.partition.Tie as tie
 returns : tie.Need-returns
 returns c =
     let g = c .before .before .before .before .before .before .before .before .args in
-    divides-short (divideRuling (g .e) (g .f) (g .list .now) (g .version .now) (g .store .now) (g .choice .now) (g .area .now) (g .block .now)) (priceOf (g .e) (g .f)) (g .list .now) (g .version .now) (g .choice .now) (g .area .now) (g .block .now) (g .answer .now) (leastOf (g .e) (g .f) (g .list .now)) 0 (c .if1 .taken)
+    let before = areas (g .choice .now) (g .area .now) (g .block .now) in
+    call-short (partitionRuling (g .e) (g .f) (g .list .now) (g .version .now) (g .store .now) before) (priceOf (g .e) (g .f)) (g .list .now) (g .version .now) (leastOf (g .e) (g .f) (g .list .now)) 0 before (g .answer .now) (c .if1 .taken)
 
 partition-requires : tie.Need-partition-requires
 partition-requires c κs = search needs
@@ -31,9 +33,7 @@ same-length-4 : tie.Need-same-length-4
 same-length-4 c = search needs
 
 returns-2 : tie.Need-returns-2
-returns-2 c =
-    let g = c .before .before .before .before .before .before .before .before .before .before .before .before .before .before .before .before .before .before .before .before .before .before .args in
-    divides-given (divideRuling (g .e) (g .f) (g .list .now) (g .version .now) (g .store .now) (g .choice .now) (g .area .now) (g .block .now)) (priceOf (g .e) (g .f)) (g .list .now) (g .version .now) (g .choice .now) (g .area .now) (g .block .now) (g .answer .now) (leastOf (g .e) (g .f) (g .list .now)) 0 (c .before .before .before .before .before .before .before .before .before .before .partition .result) (c .before .before .give .result) _ _ _ _ (c .before .before .before .before .before .before .before .before .before .before .before .before .before .before .if1 .left) (c .before .before .before .before .before .before .before .before .before .before .partition .ensures) (c .before .before .give .ensures .0) (c .before .before .give .ensures .1)
+returns-2 c = call-given (c .before .before .before .before .before .before .before .before .before .before .before .before .before .before .if1 .left) (c .before .before .before .before .before .before .before .before .before .before .partition .ensures) (c .before .before .give .ensures .0) (c .before .before .give .ensures .1)
 
 pub partition-spec : {M : Type 1} → statement M
 partition-spec =
