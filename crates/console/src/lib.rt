@@ -1,7 +1,7 @@
 // What the program `partition` reads and writes: the files of the folder where it is run, and its text.
 //
 // A file that is missing, cannot be read or is longer than its buffer is bad, and so is a price not of 4 bytes.
-// The text of a run is made by the crate `program`, that of a bad file by `report`; only the reading and writing are here.
+// The text of a run is made by the crate `program`; only the reading and writing are here.
 ghost use Prim.Native.Nat.{_+_, _*_, _≤_};
 ghost use mathlib.Core.Path.{_≡_};
 ghost use lib.ListN.{length};
@@ -49,24 +49,13 @@ fn number(low: u8, high: u8) -> u32
 }
 
 // The price in the bytes of the file price.
-fn price_in(bytes: &[u8]) -> Price
+pub fn price_in(bytes: &[u8]) -> Price
     ensures { λ r. ⌜ r ≡ priceIn (now (bytes .entry)) ⌝ }
 {
     if bytes.len() != 4 {
         return Price::Bad;
     }
     Price::Of(number(bytes[0], bytes[1]), number(bytes[2], bytes[3]))
-}
-
-// Reads the file price.
-pub fn read_price() -> Price {
-    let mut buffer = [0u8; 4];
-    let read = read_file(b"price", &mut buffer);
-    if read.bad {
-        return Price::Bad;
-    }
-    let n = read.bytes;
-    price_in(&buffer[..n])
 }
 
 // An area for the text of any list in a file of 65,536 bytes.
@@ -81,13 +70,4 @@ pub fn write(text: &[u8], n: usize)
     requires { ⌜ n ≤ length (now text) ⌝ }
 {
     io::write_all(libc::STDOUT_FILENO, &text[0..n]);
-}
-
-// Writes out the name of a bad file.
-pub fn bad_file(name: &[u8])
-    requires { ⌜ length (now name) ≤ 64 ⌝ }
-{
-    let mut text = [0u8; 256];
-    let n = report::bad_file(&mut text, name);
-    write(&text, n);
 }

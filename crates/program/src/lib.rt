@@ -1,13 +1,15 @@
-// The program `partition`: its text for what the files hold, and the run, which reads the files price, items, version and store and writes the text.
+// The program `partition`: its text for what was read of the files, and the run, which reads the files price, items, version and store and writes the text.
 //
 // The first bad file, in that order, is named, and nothing else is written. Reading and writing are in the crate `console`.
-ghost use Prim.Native.Nat.{_≤_};
-ghost use lib.ListN.{length};
+ghost use mathlib.Core.Path.{_≡_};
 ghost use Rattle.format.specs.Record.{recordsOf};
 ghost use Rattle.price.specs.Price.{priceOf};
 ghost use Rattle.report.specs.Text.{Written};
+ghost use Rattle.io.specs.Counts.{Counts};
 ghost use Rattle.program.specs.Program.{programRuling, textFor, programText, Roomy};
+ghost use Rattle.program.specs.Run.{fileIn, priceOfFile, runText, Fits, Loaded};
 use console::Price;
+use console::Read;
 use format::Answer;
 use format::Figures;
 
@@ -59,15 +61,22 @@ fn text_of(
     }
 }
 
-// Writes out the text for files of at most 65,536 bytes.
-fn write_text(e: u32, f: u32, items: &[u8], version: &[u8], store: &[u8])
-    requires { ⌜ (length (now items) ≤ 65536) × (length (now version) ≤ 65536) ⌝ }
+// The text for files that were all read.
+fn text_of_held(
+    e: u32,
+    f: u32,
+    items: &[u8],
+    version: &[u8],
+    store: &[u8],
+    text: &mut [u8],
+) -> usize
+    requires { ⌜ Fits (now items) (now version) (now text) ⌝ }
+    ensures { λ r. ⌜ Written 0 (programText e f (now (items .entry)) (now (version .entry)) (now (store .entry))) (now (text .entry)) r (now (text .exit)) ⌝ }
 {
     let mut choice = io::large_buffer();
     let mut area = io::large_buffer();
     let mut block = io::large_buffer();
-    let mut text = console::text_area();
-    let n = text_of(
+    text_of(
         e,
         f,
         items,
@@ -76,53 +85,67 @@ fn write_text(e: u32, f: u32, items: &[u8], version: &[u8], store: &[u8])
         &mut choice,
         &mut area,
         &mut block,
-        &mut text,
-    );
-    console::write(&text, n);
+        text,
+    )
 }
 
-// Reads the store, after all else.
-fn with_version(e: u32, f: u32, items: &[u8], version: &[u8])
-    requires { ⌜ (length (now items) ≤ 65536) × (length (now version) ≤ 65536) ⌝ }
+// The price, by what was read of its file.
+fn price_of(price: &[u8], p: Read) -> Price
+    requires { ⌜ Counts (p .bytes) (now price) ⌝ }
+    ensures { λ r. ⌜ r ≡ priceOfFile (fileIn p (now (price .entry))) ⌝ }
 {
-    let mut store = io::large_buffer();
-    let read = console::read_file(b"store", &mut store);
-    if read.bad {
-        return console::bad_file(b"store");
+    if p.bad {
+        return Price::Bad;
     }
-    let n = read.bytes;
-    write_text(e, f, items, version, &store[..n]);
+    let n = p.bytes;
+    console::price_in(&price[..n])
 }
 
-// Reads the version, after price and list.
-fn with_items(e: u32, f: u32, items: &[u8])
-    requires { ⌜ length (now items) ≤ 65536 ⌝ }
+// The text of a run, and its length, by what was read of price (p), items (l), version (v) and store (s) into their buffers.
+fn text_of_run(
+    price: &[u8],
+    items: &[u8],
+    version: &[u8],
+    store: &[u8],
+    p: Read,
+    l: Read,
+    v: Read,
+    s: Read,
+    text: &mut [u8],
+) -> usize
+    requires { ⌜ Loaded (now price) (now items) (now version) (now store) p l v s (now text) ⌝ }
+    ensures { λ r. ⌜ Written 0 (runText (fileIn p (now (price .entry))) (fileIn l (now (items .entry))) (fileIn v (now (version .entry))) (fileIn s (now (store .entry)))) (now (text .entry)) r (now (text .exit)) ⌝ }
 {
-    let mut version = io::large_buffer();
-    let read = console::read_file(b"version", &mut version);
-    if read.bad {
-        return console::bad_file(b"version");
+    let priced = price_of(price, p);
+    let Price::Of(e, f) = priced else {
+        return report::bad_file(text, b"price");
+    };
+    if l.bad {
+        return report::bad_file(text, b"items");
     }
-    let n = read.bytes;
-    with_version(e, f, items, &version[..n]);
-}
-
-// Reads the list, after the price.
-fn with_price(e: u32, f: u32) {
-    let mut items = io::large_buffer();
-    let read = console::read_file(b"items", &mut items);
-    if read.bad {
-        return console::bad_file(b"items");
+    if v.bad {
+        return report::bad_file(text, b"version");
     }
-    let n = read.bytes;
-    with_items(e, f, &items[..n]);
+    if s.bad {
+        return report::bad_file(text, b"store");
+    }
+    let i = l.bytes;
+    let j = v.bytes;
+    let k = s.bytes;
+    text_of_held(e, f, &items[..i], &version[..j], &store[..k], text)
 }
 
 // The whole program, in the folder where it is run.
 pub fn run() {
-    let price = console::read_price();
-    let Price::Of(e, f) = price else {
-        return console::bad_file(b"price");
-    };
-    with_price(e, f);
+    let mut price = io::large_buffer();
+    let mut items = io::large_buffer();
+    let mut version = io::large_buffer();
+    let mut store = io::large_buffer();
+    let mut text = console::text_area();
+    let p = console::read_file(b"price", &mut price);
+    let l = console::read_file(b"items", &mut items);
+    let v = console::read_file(b"version", &mut version);
+    let s = console::read_file(b"store", &mut store);
+    let n = text_of_run(&price, &items, &version, &store, p, l, v, s, &mut text);
+    console::write(&text, n);
 }

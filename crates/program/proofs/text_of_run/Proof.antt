@@ -1,0 +1,119 @@
+-- `program::text_of_run` meets its contract: each text, by what the tests before it showed of the files. Assumes nothing.
+use borrow.Author.Needs.{needs}
+use Rattle.program.proofs.text_of_run.Statement.{statement}
+use Rattle.program.proofs.text_of_run.Tie as tie
+
+price-of-requires : tie.Need-price-of-requires
+price-of-requires c κs = search needs
+
+enum-known-priced : tie.Need-enum-known-priced
+enum-known-priced c = search needs
+
+enum-told : tie.Need-enum-told
+enum-told c = search needs
+
+slice-aggregate-bad-file : tie.Need-slice-aggregate-bad-file
+slice-aggregate-bad-file c = search needs
+
+bad-file-requires : tie.Need-bad-file-requires
+bad-file-requires c κs = search needs
+
+same-length : tie.Need-same-length
+same-length c = search needs
+
+returns : tie.Need-returns
+returns c =
+    let at = c .before .before .before .before .before in
+    rw (← at .before .before .price-of .ensures, at .enum-told .given .1) (c .before .before .bad-file .ensures)
+
+slice-aggregate-bad-file-2 : tie.Need-slice-aggregate-bad-file-2
+slice-aggregate-bad-file-2 c = search needs
+
+bad-file-requires-2 : tie.Need-bad-file-requires-2
+bad-file-requires-2 c κs = search needs
+
+same-length-2 : tie.Need-same-length-2
+same-length-2 c = search needs
+
+returns-2 : tie.Need-returns-2
+returns-2 c =
+    let at = c .before .before .before .before .before in
+    rw (← at .before .before .before .before .price-of .ensures, at .before .before .priced .given .1, at .if1 .taken) (c .before .before .bad-file2 .ensures)
+
+slice-aggregate-bad-file-3 : tie.Need-slice-aggregate-bad-file-3
+slice-aggregate-bad-file-3 c = search needs
+
+bad-file-requires-3 : tie.Need-bad-file-requires-3
+bad-file-requires-3 c κs = search needs
+
+same-length-3 : tie.Need-same-length-3
+same-length-3 c = search needs
+
+returns-3 : tie.Need-returns-3
+returns-3 c =
+    let at = c .before .before .before .before .before in
+    rw (← at .before .before .before .before .before .price-of .ensures, at .before .before .before .priced .given .1, at .before .if1 .left, at .if2 .taken) (c .before .before .bad-file3 .ensures)
+
+slice-aggregate-bad-file-4 : tie.Need-slice-aggregate-bad-file-4
+slice-aggregate-bad-file-4 c = search needs
+
+bad-file-requires-4 : tie.Need-bad-file-requires-4
+bad-file-requires-4 c κs = search needs
+
+same-length-4 : tie.Need-same-length-4
+same-length-4 c = search needs
+
+returns-4 : tie.Need-returns-4
+returns-4 c =
+    let at = c .before .before .before .before .before in
+    rw (← at .before .before .before .before .before .before .price-of .ensures, at .before .before .before .before .priced .given .1, at .before .before .if1 .left, at .before .if2 .left, at .if3 .taken) (c .before .before .bad-file4 .ensures)
+
+slice-aggregate-text-of-held : tie.Need-slice-aggregate-text-of-held
+slice-aggregate-text-of-held c = search needs
+
+slice-aggregate-text-of-held-2 : tie.Need-slice-aggregate-text-of-held-2
+slice-aggregate-text-of-held-2 c = search needs
+
+slice-aggregate-text-of-held-3 : tie.Need-slice-aggregate-text-of-held-3
+slice-aggregate-text-of-held-3 c = search needs
+
+text-of-held-requires : tie.Need-text-of-held-requires
+text-of-held-requires c κs = search needs
+
+same-length-5 : tie.Need-same-length-5
+same-length-5 c = search needs
+
+returns-5 : tie.Need-returns-5
+returns-5 c =
+    let at = c .before .before .before .before .before .before .before in
+    rw (← at .before .before .before .before .before .before .price-of .ensures, at .before .before .before .before .priced .given .1, at .before .before .if1 .left, at .before .if2 .left, at .if3 .left) (c .before .before .text-of-held .ensures)
+
+pub text-of-run-spec : {M : Type 1} → statement M
+text-of-run-spec =
+    tie.close
+    (tie.spec
+    price-of-requires
+    enum-known-priced
+    enum-told
+    slice-aggregate-bad-file
+    bad-file-requires
+    same-length
+    returns
+    slice-aggregate-bad-file-2
+    bad-file-requires-2
+    same-length-2
+    returns-2
+    slice-aggregate-bad-file-3
+    bad-file-requires-3
+    same-length-3
+    returns-3
+    slice-aggregate-bad-file-4
+    bad-file-requires-4
+    same-length-4
+    returns-4
+    slice-aggregate-text-of-held
+    slice-aggregate-text-of-held-2
+    slice-aggregate-text-of-held-3
+    text-of-held-requires
+    same-length-5
+    returns-5)

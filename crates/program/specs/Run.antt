@@ -1,0 +1,65 @@
+-- A run of the program `partition`, document 01, "Sheets": its whole text, for what came of reading each of the four files.
+-- Assumes nothing.
+use Prim.Native.Nat.{ℕ, _≤_}
+use mathlib.Core.Bool.{cond}
+use mathlib.Core.List.{List, [], _∷_}
+use lib.ListN.{length, take}
+use Rattle.io.specs.Counts.{Counts}
+use Rattle.console.specs.declared.Read.{Read}
+use Rattle.console.specs.declared.Price.{Price}
+use Rattle.console.specs.declared.Price.the-variants.{Of, Bad}
+use Rattle.console.specs.Price.{priceIn}
+use Rattle.report.specs.Text.{badFileText}
+use Rattle.program.specs.Program.{programText}
+
+-- what came of reading a file: its bytes; or it is bad, as one that is missing or longer than 65,536 bytes
+pub data File : Type 0 where
+  whole : List ℕ → File
+  bad : File
+
+-- a price not of 4 bytes is bad too
+abbrev pub priceOfFile : File → Price
+priceOfFile (whole s) = priceIn s
+priceOfFile bad = Bad
+
+-- `price`, `items`, `version`, `store`
+abbrev pub priceName : List ℕ
+priceName = 112 ∷ 114 ∷ 105 ∷ 99 ∷ 101 ∷ []
+
+abbrev pub itemsName : List ℕ
+itemsName = 105 ∷ 116 ∷ 101 ∷ 109 ∷ 115 ∷ []
+
+abbrev pub versionName : List ℕ
+versionName = 118 ∷ 101 ∷ 114 ∷ 115 ∷ 105 ∷ 111 ∷ 110 ∷ []
+
+abbrev pub storeName : List ℕ
+storeName = 115 ∷ 116 ∷ 111 ∷ 114 ∷ 101 ∷ []
+
+-- the first bad file, in the order price, items, version, store, is named; otherwise the text is that of what the files hold
+abbrev pub textOfFiles : Price → File → File → File → List ℕ
+textOfFiles Bad items version store = badFileText priceName
+textOfFiles (Of e f) bad version store = badFileText itemsName
+textOfFiles (Of e f) (whole l) bad store = badFileText versionName
+textOfFiles (Of e f) (whole l) (whole v) bad = badFileText storeName
+textOfFiles (Of e f) (whole l) (whole v) (whole s) = programText e f l v s
+
+abbrev pub runText : File → File → File → File → List ℕ
+runText price items version store = textOfFiles (priceOfFile price) items version store
+
+-- what came of reading a file into a buffer, by what the reading says
+abbrev pub fileIn : Read → List ℕ → File
+fileIn r buffer = cond (r .bad) bad (whole (take (r .bytes) buffer))
+
+-- an area that is long enough for the text of files of at most 65,536 bytes
+pub record Fits (list v text : List ℕ) : Type 0 where
+  pub list-most : length list ≤ 65536
+  pub version-most : length v ≤ 65536
+  pub in-text : 262144 ≤ length text
+
+-- what was read of the files into buffers, price (p), items (l), version (v) and store (s), and an area that is long enough for the text
+pub record Loaded (price items version store : List ℕ) (p l v s : Read) (text : List ℕ) : Type 0 where
+  pub of-price : Counts (p .bytes) price
+  pub of-items : Counts (l .bytes) items
+  pub of-version : Counts (v .bytes) version
+  pub of-store : Counts (s .bytes) store
+  pub fits : Fits items version text
