@@ -1,7 +1,7 @@
 /* calls.c - the calls of controller.h, accepted and refused, at the edges of document 01, with every area's last bytes watched.
  *
  * Each area is longer than the call needs and is filled beforehand; what a call should not write must still hold the filling.
- * Exit 0 and one line where all is as it should be, else 1 and a line for each case that is not.
+ * Exit 0 and one line, with the number of cases, where all is as it should be, else 1 and a line for each case that is not.
  */
 #include <inttypes.h>
 #include <stdio.h>
@@ -10,6 +10,7 @@
 
 #include "controller.h"
 
+#define CASES 34
 #define FILL 0xA5
 #define AREA 256
 
@@ -240,6 +241,6 @@ int main(void)
     test_partition();
     test_pass();
     test_greatest();
-    printf("calls: %d cases, %d wrong\n", cases, wrong);
-    return wrong != 0;
+    printf("calls: %d cases of %d, %d wrong\n", cases, CASES, wrong);
+    return cases != CASES || wrong != 0;
 }

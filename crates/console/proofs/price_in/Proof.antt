@@ -5,7 +5,7 @@ use Rattle.console.proofs.price_in.Statement.{statement}
 use Rattle.console.proofs.price_in.Tie as tie
 
 returns : tie.Need-returns
-returns c = rw (ne-eqb _ _ (c .if1 .taken))
+returns c = rw (ne-eqb _ 4 (c .if1 .taken))
 
 shared-slice-read-number : tie.Need-shared-slice-read-number
 shared-slice-read-number c = search needs
@@ -26,7 +26,7 @@ number-requires-2 : tie.Need-number-requires-2
 number-requires-2 c κs = search needs
 
 returns-2 : tie.Need-returns-2
-returns-2 c = rw (eq-eqb _ _ (c .before .before .before .before .before .before .if1 .left)) cc
+returns-2 c = rw (eq-eqb _ 4 (c .before .before .before .before .before .before .if1 .left)) cc
 
 pub price-in-spec : {M : Type 1} → statement M
 price-in-spec =

@@ -1,4 +1,0 @@
-// The program `partition`, run where the file `store` is missing.
-fn main() {
-    program::run();
-}
