@@ -26,7 +26,7 @@ number-requires-2 : tie.Need-number-requires-2
 number-requires-2 c κs = search needs
 
 returns-2 : tie.Need-returns-2
-returns-2 c = rw (eq-eqb _ 4 (c .before .before .before .before .before .before .if1 .left)) cc
+returns-2 c = rw (eq-eqb _ 4 (c .before .before .before .before .before .before .if1 .left), c .before .before .before .number .ensures, c .number2 .ensures)
 
 pub price-in-spec : {M : Type 1} → statement M
 price-in-spec =
