@@ -10,14 +10,10 @@ use Rattle.format.specs.declared.Ruling.the-variants.{Fine, Stop}
 use Rattle.format.specs.Record.{recordsOf}
 use Rattle.price.specs.Price.{priceOf}
 use Rattle.choice.specs.Choice.{listOf, least}
-use Rattle.admit.specs.Admit.{admitRuling}
-use Rattle.writer.specs.Divide.{figures}
+use Rattle.admit.specs.Admit.{findings}
+use Rattle.writer.specs.Decide.{figures}
 use Rattle.pass.specs.Pass.{passChoice, passLooks}
 use Rattle.report.specs.Text.{reportText, refusalText}
-
--- the checks of partition and pass, in areas as long as they need
-abbrev pub programRuling : ℕ → ℕ → List ℕ → List ℕ → List ℕ → Ruling
-programRuling e f list v st = admitRuling e f list v st (length list / 12) (length list) (length v)
 
 -- the least choice's list and figures, with the pass's figures y; or only the refusal
 abbrev pub textFor : Ruling → ℕ → List Record → Figures → List ℕ
@@ -28,7 +24,7 @@ abbrev pub passFigures : ℕ → List Record → Figures
 passFigures p l = figures p (listOf l (passChoice p l)) (passLooks p l)
 
 abbrev pub programText : ℕ → ℕ → List ℕ → List ℕ → List ℕ → List ℕ
-programText e f list v st = textFor (programRuling e f list v st) (priceOf e f) (recordsOf list) (passFigures (priceOf e f) (recordsOf list))
+programText e f list v st = textFor (findings e f list v st) (priceOf e f) (recordsOf list) (passFigures (priceOf e f) (recordsOf list))
 
 -- areas that are long enough for choice, list, stored block and text
 pub record Roomy (list v choice area block text : List ℕ) : Type 0 where

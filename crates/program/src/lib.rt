@@ -6,7 +6,8 @@ ghost use Rattle.format.specs.Record.{recordsOf};
 ghost use Rattle.price.specs.Price.{priceOf};
 ghost use Rattle.report.specs.Text.{Written};
 ghost use Rattle.io.specs.Counts.{Counts};
-ghost use Rattle.program.specs.Program.{programRuling, textFor, programText, Roomy};
+ghost use Rattle.admit.specs.Admit.{findings};
+ghost use Rattle.program.specs.Program.{textFor, programText, Roomy};
 ghost use Rattle.program.specs.Run.{fileIn, priceOfFile, runText, Fits, Loaded};
 use console::Price;
 use console::Read;
@@ -27,7 +28,7 @@ fn listed(
     y: Figures,
 ) -> usize
     requires { ⌜ Roomy (now list) (now version) (now choice) (now area) (now block) (now text) ⌝ }
-    ensures { λ r. ⌜ Written 0 (textFor (programRuling e f (now (list .entry)) (now (version .entry)) (now (store .entry))) (priceOf e f) (recordsOf (now (list .entry))) y) (now (text .entry)) r (now (text .exit)) ⌝ }
+    ensures { λ r. ⌜ Written 0 (textFor (findings e f (now (list .entry)) (now (version .entry)) (now (store .entry))) (priceOf e f) (recordsOf (now (list .entry))) y) (now (text .entry)) r (now (text .exit)) ⌝ }
 {
     let answer = least::partition(e, f, list, version, store, choice, area, block);
     match answer {
