@@ -35,12 +35,12 @@ fn hand_on<'a>(
 }
 
 // The four calls, one after the other. What a refused partition wrote is an empty list with an empty block.
-pub fn demonstrate(
+pub fn demonstrate<'a>(
     e: u32,
     f: u32,
     list: &[u8],
-    version: &[u8],
-    store: &[u8],
+    version: &'a [u8],
+    store: &'a [u8],
     choice: &mut [u8],
     area: &mut [u8],
     block: &mut [u8],
