@@ -61,8 +61,9 @@ fn after_new(price: DiskBytes, before: u32, size: u32, after: Cell) -> Outcome
     ensures { λ r. ⌜ ((second : Item) → r ≡ outcomeAt (testsOf (price .0)) (new before) (match size) (cellItem after) second) ⌝ }
 {
     let bytes = price::disk(size);
+    let twice = DiskBytes(2 * price.0);
     if after.kind == 0 {
-        if bytes.0 < 2 * price.0 {
+        if bytes.0 < twice.0 {
             return Outcome::Merged(Merge::Both(before + size + after.size));
         }
         return Outcome::Advance;

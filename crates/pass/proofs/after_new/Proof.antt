@@ -15,19 +15,19 @@ use Rattle.pass.proofs.after_new.Tie as tie
 disk-requires : tie.Need-disk-requires
 disk-requires c κs = search needs
 
-mul-if2 : tie.Need-mul-if2
-mul-if2 c = search needs
-
-add-t9 : tie.Need-add-t9
-add-t9 c = search needs
+mul-t7 : tie.Need-mul-t7
+mul-t7 c = search needs
 
 add-t10 : tie.Need-add-t10
 add-t10 c = search needs
 
+add-t11 : tie.Need-add-t11
+add-t11 c = search needs
+
 returns : tie.Need-returns
 returns c =
-    let g = c .before .before .before .before .before .before .before .args in
-    let s = as-number (c .before .before .before .before .before .before .disk .ensures) in
+    let g = c .before .before .before .before .before .before .before .before .args in
+    let s = as-number (c .before .before .before .before .before .before .before .disk .ensures) in
     let t = testsOf (g .price .0) in
     λ second.
     let is : outcomeBy t 0 (g .before) 1 (g .size) (g .after .kind) (g .after .size) second ≡ Merged (Both (g .before + g .size + g .after .size)) = simp (eq-eqb (g .after .kind) 0 (omega arith), lt-ltb (g .size) (2 * g .price .0) (omega arith)) in
@@ -35,20 +35,20 @@ returns c =
 
 returns-2 : tie.Need-returns-2
 returns-2 c =
-    let g = c .before .before .before .before .before .before .args in
-    let s = as-number (c .before .before .before .before .before .disk .ensures) in
+    let g = c .before .before .before .before .before .before .before .args in
+    let s = as-number (c .before .before .before .before .before .before .disk .ensures) in
     let t = testsOf (g .price .0) in
     λ second.
     let is : outcomeBy t 0 (g .before) 1 (g .size) (g .after .kind) (g .after .size) second ≡ Advance = simp (eq-eqb (g .after .kind) 0 (omega arith), le-ltb (g .size) (2 * g .price .0) (omega arith), le-ltb (g .size) (g .price .0) (omega arith), not-one-of-zero _ (c .before .before .before .if1 .taken)) in
     sym is ∙ outcome-by t 0 (g .before) 1 (g .size) (g .after .kind) (g .after .size) second
 
-add-t12 : tie.Need-add-t12
-add-t12 c = search needs
+add-t13 : tie.Need-add-t13
+add-t13 c = search needs
 
 returns-3 : tie.Need-returns-3
 returns-3 c =
-    let g = c .before .before .before .before .before .before .args in
-    let s = as-number (c .before .before .before .before .before .disk .ensures) in
+    let g = c .before .before .before .before .before .before .before .args in
+    let s = as-number (c .before .before .before .before .before .before .disk .ensures) in
     let t = testsOf (g .price .0) in
     λ second.
     let is : outcomeBy t 0 (g .before) 1 (g .size) (g .after .kind) (g .after .size) second ≡ Merged (Before (g .before + g .size)) = simp (ne-eqb (g .after .kind) 0 (omega arith), lt-ltb (g .size) (g .price .0) (omega arith)) in
@@ -56,8 +56,8 @@ returns-3 c =
 
 returns-4 : tie.Need-returns-4
 returns-4 c =
-    let g = c .before .before .before .before .before .before .args in
-    let s = as-number (c .before .before .before .before .before .disk .ensures) in
+    let g = c .before .before .before .before .before .before .before .args in
+    let s = as-number (c .before .before .before .before .before .before .disk .ensures) in
     let t = testsOf (g .price .0) in
     λ second.
     let is : outcomeBy t 0 (g .before) 1 (g .size) (g .after .kind) (g .after .size) second ≡ Advance = simp (ne-eqb (g .after .kind) 0 (omega arith), le-ltb (g .size) (g .price .0) (omega arith), and-false) in
@@ -65,4 +65,4 @@ returns-4 c =
 
 pub after-new-spec : {M : Type 1} → statement M
 after-new-spec =
-    tie.close (tie.spec disk-requires mul-if2 add-t9 add-t10 returns returns-2 add-t12 returns-3 returns-4)
+    tie.close (tie.spec disk-requires mul-t7 add-t10 add-t11 returns returns-2 add-t13 returns-3 returns-4)

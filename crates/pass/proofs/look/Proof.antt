@@ -1,4 +1,5 @@
 -- `pass::look` meets its contract: at the front it advances; elsewhere the outcome is that of the cells around p. Assumes nothing.
+use native.Mathlib.Omega.{arith}
 use native.Mathlib.Nat.{pos-of-ne-zero}
 use mathlib.Core.Path.{_≡_, refl, ap, _∙_}
 use mathlib.Core.Logic.{⊎-elim}
@@ -13,7 +14,7 @@ advanced-requires : tie.Need-advanced-requires
 advanced-requires c κs = search needs
 
 returns : tie.Need-returns
-returns c = looked-front (c .before .before .args .price .0) (c .before .before .args .t1) (c .before .before .pre) (c .before .if1 .taken) _ refl refl (c .advanced .ensures)
+returns c = looked-front (c .before .before .args .price .0) (c .before .before .args .t1) (c .before .before .pre) (c .before .if1 .taken) _ refl (omega arith) (c .advanced .ensures)
 
 sub-near : tie.Need-sub-near
 sub-near c = search needs
@@ -71,7 +72,7 @@ returns-2 c =
     let m = c .before .before .before .before .before .before .before .before .before .before .args .t1 in
     let second : cellItem (c .before .before .if2 .second) ≡ first (rest (afterOf m)) =
     ⊎-elim (λ w. ap cellItem (w .3) ∙ second-near (c .before .before .before .before .before .before .before .before .before .before .args .price .0) m (c .before .before .before .before .before .before .before .before .before .before .pre) (w .0 .taken)) (λ w. ap cellItem (w .1) ∙ second-none (c .before .before .before .before .before .before .before .before .before .before .args .price .0) m (c .before .before .before .before .before .before .before .before .before .before .pre) (w .0 .left)) (c .before .before .if2 .came) in
-    looked-of-carried (c .before .before .before .before .before .before .before .before .before .before .args .price .0) m (c .before .before .before .before .before .before .before .before .before .before .pre) (pos-of-ne-zero (c .before .before .before .before .before .before .before .before .before .if1 .left)) (c .before .outcome-at .result) (cellItem (c .before .before .if2 .second)) (c .before .outcome-at .ensures) second _ refl refl (c .carried .ensures)
+    looked-of-carried (c .before .before .before .before .before .before .before .before .before .before .args .price .0) m (c .before .before .before .before .before .before .before .before .before .before .pre) (pos-of-ne-zero (c .before .before .before .before .before .before .before .before .before .if1 .left)) (c .before .outcome-at .result) (cellItem (c .before .before .if2 .second)) (c .before .outcome-at .ensures) second _ refl (omega arith) (c .carried .ensures)
 
 pub look-spec : {M : Type 1} → statement M
 look-spec =
