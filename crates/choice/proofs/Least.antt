@@ -1,6 +1,6 @@
 -- The cost of a choice's list is a path's cost; so the least choice is the path that `pick` picks, and a list partitioned once stays as it is.
 -- Assumes nothing.
-use Prim.Native.Nat.{ℕ, _+_, _≤_}
+use Prim.Native.Nat.{ℕ, _+_, _*_, _≤_}
 use native.Mathlib.Omega.{arith}
 use native.Mathlib.Nat.{add-assoc}
 use mathlib.Core.Path.{_≡_, refl, sym, _∙_, ap}
@@ -9,6 +9,7 @@ use mathlib.Core.List.{List, [], _∷_}
 use Rattle.format.specs.declared.Record.{Record}
 use Rattle.format.specs.declared.Record.the-variants.{New, Match}
 use Rattle.format.specs.Meaning.{sizeOf}
+use Rattle.price.specs.declared.Rates.{Rates}
 use Rattle.price.specs.Price.{cost}
 use Rattle.choice.specs.Choice.{Bit, keep, store, freedom, May, IsChoice, fuse, join, chosenRecord, listOf, costOf, least, Early, IsLeast, keepAll}
 use Rattle.choice.proofs.Path.{Beats, walk, best, pick, first, walk-pick, pick-is-first, pick-fits, pick-beats, pick-first, first-fits, choices-cong, le-beats, early-antisym}
@@ -17,10 +18,10 @@ abbrev pub after : Record → Bit → Bit
 after r b = b
 
 -- what a record adds to the cost, by the bit before it and its own
-abbrev pub step : ℕ → Bit → Record → Bit → ℕ
-step price s r keep = price
-step price keep r store = price + sizeOf r
-step price store r store = sizeOf r
+abbrev pub step : Rates → Bit → Record → Bit → ℕ
+step rates s r keep = rates .kept .0
+step rates keep r store = rates .fresh .0 + rates .byte .0 * sizeOf r
+step rates store r store = rates .byte .0 * sizeOf r
 
 pub fuse-fuse : (s t : ℕ) (l : List Record) → fuse s (fuse t l) ≡ fuse (s + t) l
 fuse-fuse s t [] = refl
@@ -30,9 +31,9 @@ fuse-fuse s t (Match u a ∷ l) = refl
 pub keep-store : {A : Type 0} → keep ≡ store → A
 keep-store e = absurd (let z : _≡_ {A = ℕ} 0 1 = cc in omega arith)
 
-module _ (price : ℕ) where
+module _ (rates : Rates) where
   abbrev Spent : List Record → List Bit → Type 0
-  Spent rs c = (cost price (listOf rs c) ≡ walk after (step price) rs keep c) × ((t : ℕ) → cost price (fuse t (listOf rs c)) ≡ price + t + walk after (step price) rs store c)
+  Spent rs c = (cost rates (listOf rs c) ≡ walk after (step rates) rs keep c) × ((t : ℕ) → cost rates (fuse t (listOf rs c)) ≡ rates .fresh .0 + rates .byte .0 * t + walk after (step rates) rs store c)
 
   stores : (r : Record) (rs : List Record) (c : List Bit) → Spent rs c → Spent (r ∷ rs) (store ∷ c)
   stores r rs c ih = (omega (arith, ih .1 (sizeOf r)), λ t. rw fuse-fuse (omega (arith, ih .1 (t + sizeOf r))))
@@ -49,40 +50,40 @@ module _ (price : ℕ) where
       keeps ih = (omega (arith, ih .0), λ t. omega (arith, ih .0))
   spent (Match s a ∷ rs) (store ∷ c) h = stores (Match s a) rs c (spent rs c (h .1))
 
-  pub least-pick : (rs : List Record) → least price rs ≡ pick after (step price) rs keep
-  least-pick rs = choices-cong (costOf price rs) (walk after (step price) rs keep) rs (λ c h. spent rs c h .0) ∙ pick-is-first after (step price) rs keep
+  pub least-pick : (rs : List Record) → least rates rs ≡ pick after (step rates) rs keep
+  least-pick rs = choices-cong (costOf rates rs) (walk after (step rates) rs keep) rs (λ c h. spent rs c h .0) ∙ pick-is-first after (step rates) rs keep
 
-  pub least-fits : (rs : List Record) → IsChoice rs (least price rs)
-  least-fits rs = rw least-pick (pick-fits after (step price) rs keep)
+  pub least-fits : (rs : List Record) → IsChoice rs (least rates rs)
+  least-fits rs = rw least-pick (pick-fits after (step rates) rs keep)
 
-  pub least-cost : (rs : List Record) → costOf price rs (least price rs) ≡ best after (step price) rs keep
-  least-cost rs = spent rs (least price rs) (least-fits rs) .0 ∙ rw least-pick (walk-pick after (step price) rs keep)
+  pub least-cost : (rs : List Record) → costOf rates rs (least rates rs) ≡ best after (step rates) rs keep
+  least-cost rs = spent rs (least rates rs) (least-fits rs) .0 ∙ rw least-pick (walk-pick after (step rates) rs keep)
 
   -- the least choice against any other: it costs less, or as much and has 0 at the first record where they differ
-  pub least-beats : (rs : List Record) (c : List Bit) → IsChoice rs c → Beats (costOf price rs (least price rs)) (least price rs) (costOf price rs c) c
-  least-beats rs c h = rw (least-cost rs, least-pick rs, spent rs c h .0) (pick-beats after (step price) rs keep c h)
+  pub least-beats : (rs : List Record) (c : List Bit) → IsChoice rs c → Beats (costOf rates rs (least rates rs)) (least rates rs) (costOf rates rs c) c
+  least-beats rs c h = rw (least-cost rs, least-pick rs, spent rs c h .0) (pick-beats after (step rates) rs keep c h)
 
 -- the least choice is least, and no other is
-pub least-is-least : (p : ℕ) (rs : List Record) → IsLeast p rs (least p rs)
-least-is-least p rs =
+pub least-is-least : (r : Rates) (rs : List Record) → IsLeast r rs (least r rs)
+least-is-least r rs =
     record {
-      choice = least-fits p rs;
-      cheapest = λ d h. le-beats (least-beats p rs d h);
-      foremost = λ d h e. tie d (least-beats p rs d h) e;
+      choice = least-fits r rs;
+      cheapest = λ d h. le-beats (least-beats r rs d h);
+      foremost = λ d h e. tie d (least-beats r rs d h) e;
     }
   where
-    tie : (d : List Bit) → Beats (costOf p rs (least p rs)) (least p rs) (costOf p rs d) d → costOf p rs d ≡ costOf p rs (least p rs) → Early (least p rs) d
+    tie : (d : List Bit) → Beats (costOf r rs (least r rs)) (least r rs) (costOf r rs d) d → costOf r rs d ≡ costOf r rs (least r rs) → Early (least r rs) d
     tie d (inl l) e = absurd (omega (arith, l, e))
     tie d (inr k) e = k .1
 
-pub least-alone : (p : ℕ) (rs : List Record) (c : List Bit) → IsLeast p rs c → c ≡ least p rs
-least-alone p rs c h =
-    let m : List Bit = least p rs in
-    let l = least-is-least p rs in
-    let a = h .cheapest (least p rs) (l .choice) in
+pub least-alone : (r : Rates) (rs : List Record) (c : List Bit) → IsLeast r rs c → c ≡ least r rs
+least-alone r rs c h =
+    let m : List Bit = least r rs in
+    let l = least-is-least r rs in
+    let a = h .cheapest (least r rs) (l .choice) in
     let b = l .cheapest c (h .choice) in
-    let e : costOf p rs c ≡ costOf p rs (least p rs) = omega arith in
-    early-antisym c (least p rs) (h .foremost (least p rs) (l .choice) (sym e)) (l .foremost c (h .choice) e)
+    let e : costOf r rs c ≡ costOf r rs (least r rs) = omega arith in
+    early-antisym c (least r rs) (h .foremost (least r rs) (l .choice) (sym e)) (l .foremost c (h .choice) e)
 
 -- ---- a list partitioned once
 
@@ -132,29 +133,29 @@ first-list (New s ∷ rs) (store ∷ c) h = first-fuse s (listOf rs c) (first-li
 first-list (Match s a ∷ rs) (keep ∷ c) h = ap (λ (l : List Record). Match s a ∷ l) (first-list rs c (h .1))
 first-list (Match s a ∷ rs) (store ∷ c) h = first-fuse s (listOf rs c) (first-list rs c (h .1))
 
-pub again : (price : ℕ) (rs : List Record) → least price (listOf rs (least price rs)) ≡ first (listOf rs (least price rs))
-again price rs = least-pick price l ∙ pick-first after (step price) l keep (omega (arith, cheap, met, led, walk-pick after (step price) l keep))
+pub again : (rates : Rates) (rs : List Record) → least rates (listOf rs (least rates rs)) ≡ first (listOf rs (least rates rs))
+again rates rs = least-pick rates l ∙ pick-first after (step rates) l keep (omega (arith, cheap, met, led, walk-pick after (step rates) l keep))
   where
     l : List Record
-    l = listOf rs (least price rs)
+    l = listOf rs (least rates rs)
 
     p : List Bit
-    p = pick after (step price) l keep
+    p = pick after (step rates) l keep
 
     up : (e : List Bit) × IsChoice rs e × (listOf rs e ≡ listOf l p)
-    up = lift rs (least price rs) (least-fits price rs) p (pick-fits after (step price) l keep)
+    up = lift rs (least rates rs) (least-fits rates rs) p (pick-fits after (step rates) l keep)
 
-    cheap : cost price l ≤ cost price (listOf rs (up .0))
-    cheap = le-beats (least-beats price rs (up .0) (up .1))
+    cheap : cost rates l ≤ cost rates (listOf rs (up .0))
+    cheap = le-beats (least-beats rates rs (up .0) (up .1))
 
-    met : cost price (listOf rs (up .0)) ≡ walk after (step price) l keep p
-    met = ap (cost price) (up .2) ∙ spent price l p (pick-fits after (step price) l keep) .0
+    met : cost rates (listOf rs (up .0)) ≡ walk after (step rates) l keep p
+    met = ap (cost rates) (up .2) ∙ spent rates l p (pick-fits after (step rates) l keep) .0
 
-    led : cost price l ≡ walk after (step price) l keep (first l)
-    led = sym (ap (cost price) (first-list rs (least price rs) (least-fits price rs))) ∙ spent price l (first l) (first-fits l) .0
+    led : cost rates l ≡ walk after (step rates) l keep (first l)
+    led = sym (ap (cost rates) (first-list rs (least rates rs) (least-fits rates rs))) ∙ spent rates l (first l) (first-fits l) .0
 
-pub again-list : (price : ℕ) (rs : List Record) → listOf (listOf rs (least price rs)) (least price (listOf rs (least price rs))) ≡ listOf rs (least price rs)
-again-list price rs = rw again (first-list rs (least price rs) (least-fits price rs))
+pub again-list : (rates : Rates) (rs : List Record) → listOf (listOf rs (least rates rs)) (least rates (listOf rs (least rates rs))) ≡ listOf rs (least rates rs)
+again-list rates rs = rw again (first-list rs (least rates rs) (least-fits rates rs))
 
 first-keeps : (l : List Record) → first l ≡ keepAll l
 first-keeps [] = refl
@@ -162,8 +163,8 @@ first-keeps (New s ∷ l) = ap (λ (c : List Bit). store ∷ c) (first-keeps l)
 first-keeps (Match s a ∷ l) = ap (λ (c : List Bit). keep ∷ c) (first-keeps l)
 
 -- the least choice of a partitioned list keeps all its matches
-pub again-keeps : (price : ℕ) (rs : List Record) → least price (listOf rs (least price rs)) ≡ keepAll (listOf rs (least price rs))
-again-keeps price rs = again price rs ∙ first-keeps (listOf rs (least price rs))
+pub again-keeps : (rates : Rates) (rs : List Record) → least rates (listOf rs (least rates rs)) ≡ keepAll (listOf rs (least rates rs))
+again-keeps rates rs = again rates rs ∙ first-keeps (listOf rs (least rates rs))
 
 -- a choice that keeps all leaves a list without new neighbours as it was
 pub keepAll-is-choice : (l : List Record) → IsChoice l (keepAll l)

@@ -10,6 +10,7 @@ use Rattle.format.specs.declared.Record.{Record}
 use Rattle.format.specs.declared.Record.the-variants.{New, Match}
 use Rattle.format.specs.Record.{from}
 use Rattle.format.specs.Meaning.{sizeOf}
+use Rattle.price.specs.declared.Rates.{Rates}
 use Rattle.price.specs.Price.{cost}
 
 -- 0: kept as match; 1: new
@@ -108,8 +109,8 @@ tidy (r ∷ l) = join r (tidy l)
 abbrev pub listOf : List Record → List Bit → List Record
 listOf rs c = tidy (chosen rs c)
 
-abbrev pub costOf : ℕ → List Record → List Bit → ℕ
-costOf p rs c = cost p (listOf rs c)
+abbrev pub costOf : Rates → List Record → List Bit → ℕ
+costOf r rs c = cost r (listOf rs c)
 
 -- of two, the one of lower value; the first where the values are equal
 abbrev pub lower : Bool → List Bit → List Bit → List Bit
@@ -128,15 +129,15 @@ abbrev pub firstOf : (List Bit → ℕ) → List (List Bit) → List Bit
 firstOf f [] = []
 firstOf f (c ∷ cs) = firstMin f c cs
 
--- the least choice: of all choices in order, the first whose list costs least, at the price p of an entry
-abbrev pub least : ℕ → List Record → List Bit
-least p rs = firstOf (costOf p rs) (choices rs)
+-- the least choice: of all choices in order, the first whose list costs least, at the rates r
+abbrev pub least : Rates → List Record → List Bit
+least r rs = firstOf (costOf r rs) (choices rs)
 
 -- what makes a choice the least: it costs no more than any other, and where another costs as much it has 0 at the first record where they differ
-pub record IsLeast (p : ℕ) (rs : List Record) (c : List Bit) : Type 0 where
+pub record IsLeast (r : Rates) (rs : List Record) (c : List Bit) : Type 0 where
   pub choice : IsChoice rs c
-  pub cheapest : (d : List Bit) → IsChoice rs d → costOf p rs c ≤ costOf p rs d
-  pub foremost : (d : List Bit) → IsChoice rs d → costOf p rs d ≡ costOf p rs c → Early c d
+  pub cheapest : (d : List Bit) → IsChoice rs d → costOf r rs c ≤ costOf r rs d
+  pub foremost : (d : List Bit) → IsChoice rs d → costOf r rs d ≡ costOf r rs c → Early c d
 
 -- 0 for each match and 1 for each new record
 abbrev pub keepAll : List Record → List Bit

@@ -8,6 +8,7 @@ use mathlib.Core.List.{List, [], _∷_}
 use lib.Dec.{ltb}
 use lib.ListN.{getD}
 use borrow.Author.Tests.{ltb-true, ltb-false}
+use Rattle.price.specs.declared.Rates.{Rates}
 use Rattle.pass.specs.declared.Machine.{Machine}
 use Rattle.pass.specs.declared.Merge.the-variants.{Both, Before, After, Pair}
 use Rattle.pass.specs.declared.Outcome.{Outcome}
@@ -107,7 +108,7 @@ first-most : (l : List Item) → size (first l) ≤ bytes l
 first-most [] = omega arith
 first-most (x ∷ l) = omega arith
 
-module _ (price : ℕ) (m : Machine) (h : Ready price m) where
+module _ (rates : Rates) (m : Machine) (h : Ready rates m) where
   first-from : (i : ℕ) → i ≤ 4097 → first (fromPlace (m .kinds) (m .sizes) i) ≡ itemIn m i
   first-from i g = go (ltb i 4097) refl
     where
@@ -129,9 +130,9 @@ module _ (price : ℕ) (m : Machine) (h : Ready price m) where
 
   -- at the front
   pub looked-front : m .left ≡ 0 → (s : Step) → s .outcome ≡ Advance → s .looks ≡ 1
-      → Moved m (s .list) (goneOn m) (m .left + 1) (m .right + 1) → Looked price m s
+      → Moved m (s .list) (goneOn m) (m .left + 1) (m .right + 1) → Looked rates m s
   looked-front z s o n v =
-      let none = outcome-no-match (testsOf price) (first (leftOf m)) (itemIn m (m .right)) (first (afterOf m)) (first (rest (afterOf m))) (h .front z) in
+      let none = outcome-no-match (testsOf rates) (first (leftOf m)) (itemIn m (m .right)) (first (afterOf m)) (first (rest (afterOf m))) (h .front z) in
       record {
         one = n;
         is = ap₂ (λ (x : Outcome) (y : State). record { outcome = x; next = y }) o (v .holds) ∙ sym (ap (λ (x : Outcome). ended x (leftOf m) (itemIn m (m .right)) (afterOf m)) none);
@@ -152,7 +153,7 @@ module _ (price : ℕ) (m : Machine) (h : Ready price m) where
         let z = size-item (getD (m .kinds) (m .right + 1) 0) (getD (m .sizes) (m .right + 1) 0) in
         omega (arith, h .fits, first-most (afterOf m))
 
-    module _ (o : Outcome) (second : Item) (is : o ≡ outcomeAt (testsOf price) (itemIn m (m .left - 1)) (itemIn m (m .right)) (itemIn m (m .right + 1)) second) where
+    module _ (o : Outcome) (second : Item) (is : o ≡ outcomeAt (testsOf rates) (itemIn m (m .left - 1)) (itemIn m (m .right)) (itemIn m (m .right + 1)) second) where
       pub outcome-reaches : Reaches m o
       outcome-reaches = record { gap = h .gap; behind = omega (arith, merge-most o); ahead = go (ltb (m .right) 4096) refl }
         where
@@ -161,16 +162,16 @@ module _ (price : ℕ) (m : Machine) (h : Ready price m) where
           go false e =
               let i : m .right + 1 ≡ 4097 = omega (arith, ltb-false (m .right) 4096 e, h .not-rear) in
               let a : itemIn m (m .right + 1) ≡ mark = ap (itemIn m) i ∙ h .rear in
-              let k : reach o ≡ reach (outcomeAt (testsOf price) (itemIn m (m .left - 1)) (itemIn m (m .right)) mark second) =
-              ap reach (is ∙ ap (λ (x : Item). outcomeAt (testsOf price) (itemIn m (m .left - 1)) (itemIn m (m .right)) x second) a) in
-              omega (arith, i, k, reach-mark (testsOf price) (itemIn m (m .left - 1)) (itemIn m (m .right)) second)
+              let k : reach o ≡ reach (outcomeAt (testsOf rates) (itemIn m (m .left - 1)) (itemIn m (m .right)) mark second) =
+              ap reach (is ∙ ap (λ (x : Item). outcomeAt (testsOf rates) (itemIn m (m .left - 1)) (itemIn m (m .right)) x second) a) in
+              omega (arith, i, k, reach-mark (testsOf rates) (itemIn m (m .left - 1)) (itemIn m (m .right)) second)
 
-      pub looked-of-carried : second ≡ first (rest (afterOf m)) → (s : Step) → s .outcome ≡ o → s .looks ≡ 1 → Carried m o (s .list) → Looked price m s
+      pub looked-of-carried : second ≡ first (rest (afterOf m)) → (s : Step) → s .outcome ≡ o → s .looks ≡ 1 → Carried m o (s .list) → Looked rates m s
       looked-of-carried e s d n v =
           let b : first (leftOf m) ≡ itemIn m (m .left - 1) = ap first (below-next (m .kinds) (m .sizes) (m .left) some) in
-          let t : o ≡ outcomeAt (testsOf price) (first (leftOf m)) (itemIn m (m .right)) (first (afterOf m)) (first (rest (afterOf m))) =
-          is ∙ sym (ap₂ (λ (x y : Item). outcomeAt (testsOf price) x (itemIn m (m .right)) y (first (rest (afterOf m)))) b first-after
-          ∙ ap (outcomeAt (testsOf price) (itemIn m (m .left - 1)) (itemIn m (m .right)) (itemIn m (m .right + 1))) (sym e)) in
+          let t : o ≡ outcomeAt (testsOf rates) (first (leftOf m)) (itemIn m (m .right)) (first (afterOf m)) (first (rest (afterOf m))) =
+          is ∙ sym (ap₂ (λ (x y : Item). outcomeAt (testsOf rates) x (itemIn m (m .right)) y (first (rest (afterOf m)))) b first-after
+          ∙ ap (outcomeAt (testsOf rates) (itemIn m (m .left - 1)) (itemIn m (m .right)) (itemIn m (m .right + 1))) (sym e)) in
           record {
             one = n;
             is = ap₂ (λ (x : Outcome) (y : State). record { outcome = x; next = y }) d (v .holds) ∙ ap (λ (x : Outcome). ended x (leftOf m) (itemIn m (m .right)) (afterOf m)) t;

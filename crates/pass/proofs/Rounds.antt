@@ -8,6 +8,8 @@ use mathlib.Core.List.{List, [], _∷_}
 use lib.ListN.{length}
 use Rattle.format.specs.Limits.{versionMost}
 use Rattle.format.proofs.Rows.{length-from}
+use Rattle.price.specs.declared.Rates.{Rates}
+use Rattle.price.specs.Price.{RatesFit}
 use Rattle.pass.specs.declared.Machine.{Machine}
 use Rattle.pass.specs.declared.Step.{Step}
 use Rattle.pass.specs.declared.Passed.{Passed}
@@ -20,7 +22,7 @@ use Rattle.pass.proofs.Theorems.{priceOf, merges-pay}
 use Rattle.pass.proofs.Gap.{fromPlace-next, fromPlace-none}
 
 -- before a look, with so many made: the list is sound, the looks that are left are enough, and the pass comes to what they come to
-pub record Round (price : ℕ) (xs : List Item) (m : Machine) (looks : ℕ) : Type 0 where
+pub record Round (rates : Rates) (xs : List Item) (m : Machine) (looks : ℕ) : Type 0 where
   pub full-kinds : length (m .kinds) ≡ 4098
   pub full-sizes : length (m .sizes) ≡ 4098
   pub gap : m .left ≤ m .right
@@ -28,17 +30,17 @@ pub record Round (price : ℕ) (xs : List Item) (m : Machine) (looks : ℕ) : Ty
   pub rear : itemIn m 4097 ≡ mark
   pub fits : bytes (leftOf m) + bytes (rightOf m) ≤ versionMost
   pub few : length xs ≤ 4097
-  pub going : m .right < 4097 → Onward (testsOf price) (priceOf price) (merges-pay price) (2 * length xs - looks) (leftOf m) (rightOf m)
-  pub end-same : pass (testsOf price) xs .end ≡ run (testsOf price) (2 * length xs - looks) (leftOf m) (rightOf m) .end
-  pub looks-same : length (pass (testsOf price) xs .outcomes) ≡ looks + length (run (testsOf price) (2 * length xs - looks) (leftOf m) (rightOf m) .outcomes)
+  pub going : m .right < 4097 → Onward (testsOf rates) (priceOf rates) (merges-pay rates) (2 * length xs - looks) (leftOf m) (rightOf m)
+  pub end-same : pass (testsOf rates) xs .end ≡ run (testsOf rates) (2 * length xs - looks) (leftOf m) (rightOf m) .end
+  pub looks-same : length (pass (testsOf rates) xs .outcomes) ≡ looks + length (run (testsOf rates) (2 * length xs - looks) (leftOf m) (rightOf m) .outcomes)
 
 front-no-match : (x : Item) (l : List Item) → Starts (x ∷ l) → isMatch x ≡ false
 front-no-match (new s) l h = absurd h
 front-no-match (match s) l h = absurd h
 front-no-match (neither s) l h = refl
 
-module _ (price : ℕ) where
-  pub round-start : (m : Machine) → Runnable price m → length (m .kinds) ≡ 4098 → length (m .sizes) ≡ 4098 → Round price (rightOf m) m 0
+module _ (rates : Rates) where
+  pub round-start : (m : Machine) → Runnable rates m → length (m .kinds) ≡ 4098 → length (m .sizes) ≡ 4098 → Round rates (rightOf m) m 0
   unfolding pass
   round-start m h hk hs =
       let n = 2 * length (rightOf m) in
@@ -60,21 +62,21 @@ module _ (price : ℕ) where
         looks-same = rw (f, all) (omega arith);
       }
 
-  module _ (xs : List Item) (m : Machine) (looks : ℕ) (h : Round price xs m looks) where
+  module _ (xs : List Item) (m : Machine) (looks : ℕ) (h : Round rates xs m looks) where
     module _ (g : m .right < 4097) where
       opened : rightOf m ≡ itemIn m (m .right) ∷ afterOf m
       opened = fromPlace-next (m .kinds) (m .sizes) (m .right) g
 
-      on : Onward (testsOf price) (priceOf price) (merges-pay price) (2 * length xs - looks) (leftOf m) (itemIn m (m .right) ∷ afterOf m)
+      on : Onward (testsOf rates) (priceOf rates) (merges-pay rates) (2 * length xs - looks) (leftOf m) (itemIn m (m .right) ∷ afterOf m)
       on = rw opened at (h .going g)
 
       pub looks-left : looks < 2 * length xs
-      looks-left = let some = onward (testsOf price) (priceOf price) (merges-pay price) (2 * length xs - looks) (leftOf m) (itemIn m (m .right)) (afterOf m) on .0 in omega (arith, some)
+      looks-left = let some = onward (testsOf rates) (priceOf rates) (merges-pay rates) (2 * length xs - looks) (leftOf m) (itemIn m (m .right)) (afterOf m) on .0 in omega (arith, some)
 
-      pub ready-of-round : price ≤ 16711425 → Ready price m
+      pub ready-of-round : RatesFit rates → Ready rates m
       ready-of-round p =
           record {
-            price-most = p;
+            rates-fit = p;
             gap = h .gap;
             not-rear = g;
             rear = h .rear;
@@ -82,19 +84,19 @@ module _ (price : ℕ) where
             fits = h .fits;
           }
 
-      pub round-next : (s : Step) → Looked price m s → length (s .list .kinds) ≡ 4098 → length (s .list .sizes) ≡ 4098 → Round price xs (s .list) (looks + s .looks)
+      pub round-next : (s : Step) → Looked rates m s → length (s .list .kinds) ≡ 4098 → length (s .list .sizes) ≡ 4098 → Round rates xs (s .list) (looks + s .looks)
       round-next s v hk hs =
-          let t = testsOf price in
+          let t = testsOf rates in
           let f = 2 * length xs - looks in
           let p = itemIn m (m .right) in
           let o : Look = lookAt t (leftOf m) p (afterOf m) in
           let l : leftOf (s .list) ≡ o .next .left = ap (λ (x : Look). x .next .left) (v .is) in
           let r : rightOf (s .list) ≡ o .next .right = ap (λ (x : Look). x .next .right) (v .is) in
-          let k = onward t (priceOf price) (merges-pay price) f (leftOf m) p (afterOf m) on in
+          let k = onward t (priceOf rates) (merges-pay rates) f (leftOf m) p (afterOf m) on in
           let less : 2 * length xs - (looks + s .looks) ≡ f - 1 = omega (arith, v .one) in
           let u : run t f (leftOf m) (rightOf m) ≡ preceded (o .outcome) (run t (f - 1) (o .next .left) (o .next .right)) =
           ap (run t f (leftOf m)) opened ∙ run-look t f (leftOf m) p (afterOf m) (k .0) in
-          let kept = look-turns t (priceOf price) (merges-pay price) (seen t (priceOf price) (merges-pay price) (leftOf m) p (afterOf m) (on .starts)) .kept in
+          let kept = look-turns t (priceOf rates) (merges-pay rates) (seen t (priceOf rates) (merges-pay rates) (leftOf m) p (afterOf m) (on .starts)) .kept in
           record {
             full-kinds = hk;
             full-sizes = hs;
@@ -108,15 +110,15 @@ module _ (price : ℕ) where
             looks-same = rw (l, r, less) (h .looks-same ∙ ap (λ (x : Run). looks + length (x .outcomes)) u ∙ omega (arith, v .one));
           }
 
-    pub round-end : 4097 ≤ m .right → (r : Passed) → r .looks ≡ looks → r .list ≡ m → Ran price xs r
+    pub round-end : 4097 ≤ m .right → (r : Passed) → r .looks ≡ looks → r .list ≡ m → Ran rates xs r
     round-end g r a b =
         let none : rightOf m ≡ [] = fromPlace-none (m .kinds) (m .sizes) (m .right) g in
-        let u : run (testsOf price) (2 * length xs - looks) (leftOf m) (rightOf m) ≡ stopped (leftOf m) [] =
-        ap (run (testsOf price) (2 * length xs - looks) (leftOf m)) none ∙ run-rear (testsOf price) (2 * length xs - looks) (leftOf m) in
-        let all : r .looks ≡ length (pass (testsOf price) xs .outcomes) = a ∙ omega (arith, h .looks-same, ap (λ (x : Run). length (x .outcomes)) u) in
+        let u : run (testsOf rates) (2 * length xs - looks) (leftOf m) (rightOf m) ≡ stopped (leftOf m) [] =
+        ap (run (testsOf rates) (2 * length xs - looks) (leftOf m)) none ∙ run-rear (testsOf rates) (2 * length xs - looks) (leftOf m) in
+        let all : r .looks ≡ length (pass (testsOf rates) xs .outcomes) = a ∙ omega (arith, h .looks-same, ap (λ (x : Run). length (x .outcomes)) u) in
         record {
           looks-are = all;
-          few-looks = omega (arith, all, few-of-pass (testsOf price) (priceOf price) (merges-pay price) xs);
+          few-looks = omega (arith, all, few-of-pass (testsOf rates) (priceOf rates) (merges-pay rates) xs);
           list-is = ap leftOf b ∙ sym (ap (λ (x : State). x .left) (h .end-same) ∙ ap (λ (x : Run). x .end .left) u);
           within = rw b (omega (arith, h .gap, h .within));
         }

@@ -1,18 +1,20 @@
--- The theorems of the pass, at the price p of an entry: it ends, within 2n - 1 looks; each merge lowers the cost; the end list has no two new
+-- The theorems of the pass, at the rates r: it ends, within 2n - 1 looks; each merge lowers the cost; the end list has no two new
 -- items side by side and is the list of the pass's choice, which is a choice.
 -- Assumes nothing.
-use Prim.Native.Nat.{ℕ, suc, _+_, _-_, _*_, _≤_}
+use Prim.Native.Nat.{ℕ, suc, _+_, _-_, _*_, _≤_, _<_}
 use native.Mathlib.Omega.{arith}
-use mathlib.Core.Path.{_≡_, refl, _∙_, ap}
-use mathlib.Core.Bool.{false}
+use mathlib.Core.Path.{_≡_, refl, sym, _∙_, ap}
+use mathlib.Core.Bool.{Bool, true, false}
 use mathlib.Core.List.{List, [], _∷_}
+use lib.Dec.{ltb}
 use lib.ListN.{length}
-use borrow.Author.Tests.{ltb-true, lt-ltb}
+use borrow.Author.Tests.{ltb-true, ltb-false, lt-ltb, le-ltb}
 use Rattle.format.specs.declared.Record.{Record}
 use Rattle.format.specs.declared.Record.the-variants.{New, Match}
 use Rattle.format.specs.Meaning.{whole}
 use Rattle.format.specs.WellFormed.{Sized, NotNew, Apart}
-use Rattle.price.specs.Price.{cost}
+use Rattle.price.specs.declared.Rates.{Rates}
+use Rattle.price.specs.Price.{cost, ratesAt}
 use Rattle.choice.specs.Choice.{IsChoice, listOf}
 use Rattle.pass.specs.Pass.{Item, new, match, neither, isNew, first, items, bytes, testsOf, Look, lookAt, mergeIn, mergesIn, joined, pass, passOutcomes, passLooks, passItems, passChoice}
 use Rattle.pass.proofs.Fusing.{Starts, Tidy, weigh}
@@ -20,25 +22,46 @@ use Rattle.pass.proofs.Looks.{Pays, seen, look-turns}
 use Rattle.pass.proofs.Running.{Passes, passes}
 use Rattle.pass.proofs.Recovering.{Recovered, recovered}
 
--- what an item adds to the cost
-abbrev pub priceOf : ℕ → Item → ℕ
-priceOf p (new s) = p + s
-priceOf p (match s) = p
-priceOf p (neither s) = p
+-- what an item adds to the cost; a mark weighs as a match
+abbrev pub priceOf : Rates → Item → ℕ
+priceOf r (new s) = r .fresh .0 + r .byte .0 * s
+priceOf r (match s) = r .kept .0
+priceOf r (neither s) = r .kept .0
 
-pub cost-weigh : (p : ℕ) (rs : List Record) → cost p rs ≡ weigh (priceOf p) (items rs)
-cost-weigh p [] = omega arith
-cost-weigh p (New s ∷ rs) = omega (arith, cost-weigh p rs)
-cost-weigh p (Match s a ∷ rs) = omega (arith, cost-weigh p rs)
+pub cost-weigh : (r : Rates) (rs : List Record) → cost r rs ≡ weigh (priceOf r) (items rs)
+cost-weigh r [] = omega arith
+cost-weigh r (New s ∷ rs) = omega (arith, cost-weigh r rs)
+cost-weigh r (Match s a ∷ rs) = omega (arith, cost-weigh r rs)
 
-pub merges-pay : (p : ℕ) → Pays (testsOf p) (priceOf p)
-merges-pay p =
+pub merges-pay : (r : Rates) → Pays (testsOf r) (priceOf r)
+merges-pay r =
     record {
-      wider = λ s e. lt-ltb s (2 * p) (omega (arith, ltb-true s p e));
-      both-pays = λ a b c e. omega (arith, ltb-true b (2 * p) e);
-      before-pays = λ a b e. omega (arith, ltb-true b p e);
-      after-pays = λ b c e. omega (arith, ltb-true b p e);
-      pair-pays = λ b c e. omega (arith, ltb-true (b + c) p e);
+      wider = λ s e. lt-ltb (r .byte .0 * s) (r .kept .0 + r .fresh .0) (omega (arith, ltb-true (r .byte .0 * s) (r .kept .0) e));
+      both-pays = λ a b c e. omega (arith, ltb-true (r .byte .0 * b) (r .kept .0 + r .fresh .0) e);
+      before-pays = λ a b e. omega (arith, ltb-true (r .byte .0 * b) (r .kept .0) e);
+      after-pays = λ b c e. omega (arith, ltb-true (r .byte .0 * b) (r .kept .0) e);
+      pair-pays = λ b c e. omega (arith, ltb-true (r .byte .0 * (b + c) + r .fresh .0) (2 * r .kept .0) e);
+    }
+
+-- the tests at the price p of an entry, as document 01 has them
+ltb-same : (a b m n : ℕ) → (a < b → m < n) → (b ≤ a → n ≤ m) → ltb a b ≡ ltb m n
+ltb-same a b m n f g = go (ltb a b) refl
+  where
+    go : (t : Bool) → ltb a b ≡ t → t ≡ ltb m n
+    go true e = sym (lt-ltb m n (f (ltb-true a b e)))
+    go false e = sym (le-ltb m n (g (ltb-false a b e)))
+
+pub record TestsAt (p : ℕ) : Type 0 where
+  pub lone-at : (s : ℕ) → testsOf (ratesAt p) .lone s ≡ ltb s (2 * p)
+  pub side-at : (s : ℕ) → testsOf (ratesAt p) .side s ≡ ltb s p
+  pub pair-at : (s : ℕ) → testsOf (ratesAt p) .pair s ≡ ltb s p
+
+pub tests-at : (p : ℕ) → TestsAt p
+tests-at p =
+    record {
+      lone-at = λ s. ltb-same (1 * s) (p + p) s (2 * p) (λ h. omega arith) (λ h. omega arith);
+      side-at = λ s. ltb-same (1 * s) p s p (λ h. omega arith) (λ h. omega arith);
+      pair-at = λ s. ltb-same (1 * s + p) (2 * p) s p (λ h. omega arith) (λ h. omega arith);
     }
 
 pub length-items : (rs : List Record) → length (items rs) ≡ length rs
@@ -61,50 +84,50 @@ tidy-of-apart (New s ∷ rs) h = (not-new-items rs (h .0), tidy-of-apart rs (h .
 tidy-of-apart (Match s a ∷ rs) h = tidy-of-apart rs h
 
 -- each merge lowers the cost of the carried list, marks priced like records, and an advance does not raise it
-pub merge-lowers : (p : ℕ) (l : List Item) (x : Item) (r : List Item) → Starts (joined l (x ∷ r))
-    → let s : Look = lookAt (testsOf p) l x r in
-    weigh (priceOf p) (joined (s .next .left) (s .next .right)) + mergeIn (s .outcome) ≤ weigh (priceOf p) (joined l (x ∷ r))
-merge-lowers p l x r h = look-turns (testsOf p) (priceOf p) (merges-pay p) (seen (testsOf p) (priceOf p) (merges-pay p) l x r h) .lower
+pub merge-lowers : (rates : Rates) (l : List Item) (x : Item) (r : List Item) → Starts (joined l (x ∷ r))
+    → let s : Look = lookAt (testsOf rates) l x r in
+    weigh (priceOf rates) (joined (s .next .left) (s .next .right)) + mergeIn (s .outcome) ≤ weigh (priceOf rates) (joined l (x ∷ r))
+merge-lowers rates l x r h = look-turns (testsOf rates) (priceOf rates) (merges-pay rates) (seen (testsOf rates) (priceOf rates) (merges-pay rates) l x r h) .lower
 
-module _ (p : ℕ) (rs : List Record) (apart : Apart rs) where
-  pass-of : Passes (testsOf p) (priceOf p) (items rs)
-  pass-of = passes (testsOf p) (priceOf p) (merges-pay p) (items rs) (tidy-of-apart rs apart)
+module _ (r : Rates) (rs : List Record) (apart : Apart rs) where
+  pass-of : Passes (testsOf r) (priceOf r) (items rs)
+  pass-of = passes (testsOf r) (priceOf r) (merges-pay r) (items rs) (tidy-of-apart rs apart)
 
-  -- p comes to the rear
-  pub pass-ends : pass (testsOf p) (items rs) .end .right ≡ []
+  -- r comes to the rear
+  pub pass-ends : pass (testsOf r) (items rs) .end .right ≡ []
   pass-ends = pass-of .rear
 
   -- the end list never has two new items side by side
-  pub pass-tidy : Tidy (passItems p rs)
+  pub pass-tidy : Tidy (passItems r rs)
   pass-tidy = pass-of .tidy
 
   -- and covers as many bytes
-  pub pass-bytes : bytes (passItems p rs) ≡ whole rs
+  pub pass-bytes : bytes (passItems r rs) ≡ whole rs
   pass-bytes = pass-of .kept ∙ bytes-items rs
 
--- the pass at the price p over the records rs: few looks, a choice, whose list is the end list, at no higher cost
-pub record PassHolds (p : ℕ) (rs : List Record) : Type 0 where
-  pub few : passLooks p rs ≤ 2 * length rs - 1
-  pub choice : IsChoice rs (passChoice p rs)
-  pub listed : items (listOf rs (passChoice p rs)) ≡ passItems p rs
-  pub lower : cost p (listOf rs (passChoice p rs)) ≤ cost p rs
+-- the pass at the rates r over the records rs: few looks, a choice, whose list is the end list, at no higher cost
+pub record PassHolds (r : Rates) (rs : List Record) : Type 0 where
+  pub few : passLooks r rs ≤ 2 * length rs - 1
+  pub choice : IsChoice rs (passChoice r rs)
+  pub listed : items (listOf rs (passChoice r rs)) ≡ passItems r rs
+  pub lower : cost r (listOf rs (passChoice r rs)) ≤ cost r rs
 
-module _ (p : ℕ) (rs : List Record) (sized : Sized rs) (apart : Apart rs) where
-  pub pass-recovered : Recovered rs (passItems p rs)
-  pass-recovered = recovered rs (passItems p rs) sized (pass-of p rs apart .tidy) (pass-of p rs apart .fuses)
+module _ (r : Rates) (rs : List Record) (sized : Sized rs) (apart : Apart rs) where
+  pub pass-recovered : Recovered rs (passItems r rs)
+  pass-recovered = recovered rs (passItems r rs) sized (pass-of r rs apart .tidy) (pass-of r rs apart .fuses)
 
   -- the cost of the pass's list is lower than the list's by at least 1 for each merge
-  pub merges-lower : cost p (listOf rs (passChoice p rs)) + mergesIn (passOutcomes p rs) ≤ cost p rs
+  pub merges-lower : cost r (listOf rs (passChoice r rs)) + mergesIn (passOutcomes r rs) ≤ cost r rs
   unfolding passOutcomes
   merges-lower =
-      let c = ap (weigh (priceOf p)) (pass-recovered .listed) in
-      omega (arith, pass-of p rs apart .lower, cost-weigh p rs, cost-weigh p (listOf rs (passChoice p rs)), c)
+      let c = ap (weigh (priceOf r)) (pass-recovered .listed) in
+      omega (arith, pass-of r rs apart .lower, cost-weigh r rs, cost-weigh r (listOf rs (passChoice r rs)), c)
 
-  pub pass-holds : PassHolds p rs
+  pub pass-holds : PassHolds r rs
   unfolding passOutcomes
   pass-holds =
       record {
-        few = omega (arith, pass-of p rs apart .few, length-items rs);
+        few = omega (arith, pass-of r rs apart .few, length-items rs);
         choice = pass-recovered .choice;
         listed = pass-recovered .listed;
         lower = omega (arith, merges-lower);

@@ -9,6 +9,8 @@ use lib.Dec.{eqb}
 use lib.ListN.{length, getD}
 use Rattle.format.specs.Limits.{versionMost}
 use Rattle.format.specs.Record.{from, recordsOf}
+use Rattle.price.specs.declared.Rates.{Rates}
+use Rattle.price.specs.Price.{RatesFit}
 use Rattle.choice.specs.Choice.{IsChoice}
 use Rattle.pass.specs.declared.Cell.{Cell}
 use Rattle.pass.specs.declared.Machine.{Machine}
@@ -100,8 +102,8 @@ pub record Carried (m : Machine) (o : Outcome) (r : Machine) : Type 0 where
   pub rear-kept : itemIn r 4097 ≡ itemIn m 4097
 
 -- a machine on which a look can be made
-pub record Ready (price : ℕ) (m : Machine) : Type 0 where
-  pub price-most : price ≤ 16711425
+pub record Ready (rates : Rates) (m : Machine) : Type 0 where
+  pub rates-fit : RatesFit rates
   pub gap : m .left ≤ m .right
   pub not-rear : m .right < 4097
   pub rear : itemIn m 4097 ≡ mark
@@ -113,9 +115,9 @@ abbrev pub lookOf : Step → Look
 lookOf s = record { outcome = s .outcome; next = stateOf (s .list) }
 
 -- what a look gives: it counts as one, and is the look of the definition
-pub record Looked (price : ℕ) (m : Machine) (s : Step) : Type 0 where
+pub record Looked (rates : Rates) (m : Machine) (s : Step) : Type 0 where
   pub one : s .looks ≡ 1
-  pub is : lookOf s ≡ lookAt (testsOf price) (leftOf m) (itemIn m (m .right)) (afterOf m)
+  pub is : lookOf s ≡ lookAt (testsOf rates) (leftOf m) (itemIn m (m .right)) (afterOf m)
   pub gap : s .list .left ≤ s .list .right
   pub within : s .list .right ≤ 4097
   pub rear : itemIn (s .list) 4097 ≡ mark
@@ -129,16 +131,16 @@ pub record Loaded (m : Machine) (xs : List Item) : Type 0 where
   pub holds : rightOf m ≡ xs
 
 -- a machine on which a pass can be made
-pub record Runnable (price : ℕ) (m : Machine) : Type 0 where
-  pub price-most : price ≤ 16711425
+pub record Runnable (rates : Rates) (m : Machine) : Type 0 where
+  pub rates-fit : RatesFit rates
   pub loaded : Loaded m (rightOf m)
   pub fits : bytes (rightOf m) ≤ versionMost
 
 -- a machine at the end of a pass
-pub record Ran (price : ℕ) (xs : List Item) (r : Passed) : Type 0 where
-  pub looks-are : r .looks ≡ length (pass (testsOf price) xs .outcomes)
+pub record Ran (rates : Rates) (xs : List Item) (r : Passed) : Type 0 where
+  pub looks-are : r .looks ≡ length (pass (testsOf rates) xs .outcomes)
   pub few-looks : r .looks ≤ 2 * length xs - 1
-  pub list-is : leftOf (r .list) ≡ pass (testsOf price) xs .end .left
+  pub list-is : leftOf (r .list) ≡ pass (testsOf rates) xs .end .left
   pub within : r .list .left ≤ 4097
 
 -- the end list of a machine, without its front mark

@@ -13,6 +13,8 @@ use Rattle.format.specs.Limits.{versionMost, listMost}
 use Rattle.format.specs.Record.{recordsOf}
 use Rattle.format.specs.Meaning.{sizeOf, whole}
 use Rattle.format.specs.WellFormed.{Sized, Apart}
+use Rattle.price.specs.declared.Rates.{Rates}
+use Rattle.price.specs.Price.{RatesFit}
 use Rattle.area.specs.Area.{over}
 use Rattle.choice.specs.Choice.{Bit, keep, store, bitBytes}
 use Rattle.pass.specs.declared.Merge.the-variants.{Both, Before, After, Pair}
@@ -87,9 +89,15 @@ pub record Tests : Type 0 where
   pub side : ℕ → Bool
   pub pair : ℕ → Bool
 
--- "size < 2P", "size < P", "the two sizes together < P"
-abbrev pub testsOf : ℕ → Tests
-testsOf p = record { lone = λ s. ltb s (2 * p); side = λ s. ltb s p; pair = λ s. ltb s p }
+-- what the merge stores costs less than what it spares: a match and a new entry in merge 1, a match in merges 2 and 3, two matches for a new
+-- entry in merge 4; at the price P of an entry "size < 2P", "size < P", "the two sizes together < P" (`tests-at`)
+abbrev pub testsOf : Rates → Tests
+testsOf r =
+    record {
+      lone = λ s. ltb (r .byte .0 * s) (r .kept .0 + r .fresh .0);
+      side = λ s. ltb (r .byte .0 * s) (r .kept .0);
+      pair = λ s. ltb (r .byte .0 * s + r .fresh .0) (2 * r .kept .0);
+    }
 
 -- how a look at p ends, with b before it, a after it and c second after it; a merge with the bytes that it fuses:
 -- 1. "p is a match, both neighbours new, size < 2P"
@@ -183,20 +191,20 @@ unfoldable pub endItems : Tests → List Item → List Item
 unfolding pass
 endItems t xs = rest (joined (pass t xs .end .left) [])
 
--- ---- what a caller gets, at the price p of an entry
+-- ---- what a caller gets, at the rates r
 
 -- how each look ended
-unfoldable pub passOutcomes : ℕ → List Record → List Outcome
+unfoldable pub passOutcomes : Rates → List Record → List Outcome
 unfolding pass
-passOutcomes p rs = pass (testsOf p) (items rs) .outcomes
+passOutcomes r rs = pass (testsOf r) (items rs) .outcomes
 
 -- the number of looks
-abbrev pub passLooks : ℕ → List Record → ℕ
-passLooks p rs = length (passOutcomes p rs)
+abbrev pub passLooks : Rates → List Record → ℕ
+passLooks r rs = length (passOutcomes r rs)
 
 -- the pass's list, by kinds and sizes
-abbrev pub passItems : ℕ → List Record → List Item
-passItems p rs = endItems (testsOf p) (items rs)
+abbrev pub passItems : Rates → List Record → List Item
+passItems r rs = endItems (testsOf r) (items rs)
 
 -- an item without its first s bytes
 abbrev pub shrunk : Item → ℕ → Item
@@ -219,12 +227,12 @@ choiceOf (r ∷ rs) [] = []
 choiceOf (r ∷ rs) (i ∷ is) = bitFor i ∷ choiceOf rs (cut (sizeOf r) i is)
 
 -- the pass's choice: its list is `listOf` of it, and by kinds and sizes `passItems` (`pass-holds`)
-abbrev pub passChoice : ℕ → List Record → List Bit
-passChoice p rs = choiceOf rs (passItems p rs)
+abbrev pub passChoice : Rates → List Record → List Bit
+passChoice r rs = choiceOf rs (passItems r rs)
 
--- what the call asks for: a price that is at most 65,535 × 255, a list that was accepted, and a byte for each record
-pub record Passable (price : ℕ) (list choice : List ℕ) : Type 0 where
-  pub price-most : price ≤ 16711425
+-- what the call asks for: rates that fit, a list that was accepted, and a byte for each record
+pub record Passable (rates : Rates) (list choice : List ℕ) : Type 0 where
+  pub rates-fit : RatesFit rates
   pub list-most : length list ≤ listMost
   pub room : length (recordsOf list) ≤ length choice
   pub sized : Sized (recordsOf list)
@@ -232,7 +240,7 @@ pub record Passable (price : ℕ) (list choice : List ℕ) : Type 0 where
   pub whole-most : whole (recordsOf list) ≤ versionMost
 
 -- what the call gives: the number of looks, which is at most 2n - 1, and the choice area, which begins with the pass's choice
-pub record PassIn (price : ℕ) (list before after : List ℕ) (r : ℕ) : Type 0 where
-  pub looks-are : r ≡ passLooks price (recordsOf list)
+pub record PassIn (rates : Rates) (list before after : List ℕ) (r : ℕ) : Type 0 where
+  pub looks-are : r ≡ passLooks rates (recordsOf list)
   pub few-looks : r ≤ 2 * length (recordsOf list) - 1
-  pub area : after ≡ over (bitBytes (passChoice price (recordsOf list))) before
+  pub area : after ≡ over (bitBytes (passChoice rates (recordsOf list))) before

@@ -7,12 +7,14 @@ ghost use Prim.Native.Nat.{_+_, _-_, _≤_, _<_};
 ghost use lib.ListN.{length};
 ghost use Rattle.format.specs.Record.{recordsOf};
 ghost use Rattle.format.specs.Meaning.{sizeOf};
+ghost use Rattle.price.specs.Price.{RatesFit};
 ghost use Rattle.choice.specs.Choice.{bitByte, bitBytes};
 ghost use Rattle.area.specs.Area.{over};
 ghost use Rattle.pass.specs.Pass.{Item, new, match, testsOf, outcomeAt, items, itemFor, bitFor, choiceOf, Passable, PassIn};
 ghost use Rattle.pass.specs.Machine.{itemOf, cellItem, rightOf, endOf, goneOn, fusedBack, fusedAhead, Moved, Reaches, Carried, Ready, Looked, Loaded, Runnable, Ran, Covering};
 use format::Record;
 use price::DiskBytes;
+use price::Rates;
 
 // A merge, by what becomes one with p, and the bytes fused: the size of the record made.
 pub enum Merge {
@@ -56,37 +58,37 @@ pub struct Passed {
 }
 
 // Rules 1, 2 and 5 for a match of `size` bytes that stands after a new record of `before` bytes.
-fn after_new(price: DiskBytes, before: u32, size: u32, after: Cell) -> Outcome
-    requires { ⌜ (price .0 ≤ 16711425) × (before + size + after .size ≤ 16777216) ⌝ }
-    ensures { λ r. ⌜ ((second : Item) → r ≡ outcomeAt (testsOf (price .0)) (new before) (match size) (cellItem after) second) ⌝ }
+fn after_new(rates: Rates, before: u32, size: u32, after: Cell) -> Outcome
+    requires { ⌜ (RatesFit rates) × (before + size + after .size ≤ 16777216) ⌝ }
+    ensures { λ r. ⌜ ((second : Item) → r ≡ outcomeAt (testsOf rates) (new before) (match size) (cellItem after) second) ⌝ }
 {
-    let bytes = price::disk(size);
-    let twice = DiskBytes(2 * price.0);
+    let bytes = price::storing(rates, size);
+    let both = DiskBytes(rates.kept.0 + rates.fresh.0);
     if after.kind == 0 {
-        if bytes.0 < twice.0 {
+        if bytes.0 < both.0 {
             return Outcome::Merged(Merge::Both(before + size + after.size));
         }
         return Outcome::Advance;
     }
-    if bytes.0 < price.0 {
+    if bytes.0 < rates.kept.0 {
         return Outcome::Merged(Merge::Before(before + size));
     }
     Outcome::Advance
 }
 
 // The first of the five rules that applies to p, with the one before it, the one after it and the second after it.
-fn outcome_at(price: DiskBytes, before: Cell, p: Cell, after: Cell, second: Cell) -> Outcome
-    requires { ⌜ (price .0 ≤ 16711425) × (before .size + p .size + after .size ≤ 16777216) ⌝ }
-    ensures { λ r. ⌜ r ≡ outcomeAt (testsOf (price .0)) (cellItem before) (cellItem p) (cellItem after) (cellItem second) ⌝ }
+fn outcome_at(rates: Rates, before: Cell, p: Cell, after: Cell, second: Cell) -> Outcome
+    requires { ⌜ (RatesFit rates) × (before .size + p .size + after .size ≤ 16777216) ⌝ }
+    ensures { λ r. ⌜ r ≡ outcomeAt (testsOf rates) (cellItem before) (cellItem p) (cellItem after) (cellItem second) ⌝ }
 {
     if p.kind != 1 {
         return Outcome::Advance;
     }
     if before.kind == 0 {
-        return after_new(price, before.size, p.size, after);
+        return after_new(rates, before.size, p.size, after);
     }
     if after.kind == 0 {
-        if price::disk(p.size).0 < price.0 {
+        if price::storing(rates, p.size).0 < rates.kept.0 {
             return Outcome::Merged(Merge::After(p.size + after.size));
         }
         return Outcome::Advance;
@@ -97,7 +99,8 @@ fn outcome_at(price: DiskBytes, before: Cell, p: Cell, after: Cell, second: Cell
     if second.kind == 0 {
         return Outcome::Advance;
     }
-    if price::disk(p.size + after.size).0 < price.0 {
+    let bytes = price::storing(rates, p.size + after.size);
+    if bytes.0 + rates.fresh.0 < 2 * rates.kept.0 {
         return Outcome::Merged(Merge::Pair(p.size + after.size));
     }
     Outcome::Advance
@@ -165,9 +168,9 @@ fn carried(machine: Machine, outcome: Outcome) -> Machine
 }
 
 // One look at p.
-fn look(machine: Machine, price: DiskBytes) -> Step
-    requires { ⌜ Ready (price .0) machine ⌝ }
-    ensures { λ r. ⌜ Looked (price .0) machine r ⌝ }
+fn look(machine: Machine, rates: Rates) -> Step
+    requires { ⌜ Ready rates machine ⌝ }
+    ensures { λ r. ⌜ Looked rates machine r ⌝ }
 {
     let left = machine.left;
     let right = machine.right;
@@ -201,7 +204,7 @@ fn look(machine: Machine, price: DiskBytes) -> Step
             size: machine.sizes[far],
         };
     }
-    let outcome = outcome_at(price, before, p, after, second);
+    let outcome = outcome_at(rates, before, p, after, second);
     let list = carried(machine, outcome);
     Step {
         outcome,
@@ -211,14 +214,14 @@ fn look(machine: Machine, price: DiskBytes) -> Step
 }
 
 // Looks until p is the rear, and counts them.
-fn run(machine: Machine, price: DiskBytes) -> Passed
-    requires { ⌜ Runnable (price .0) machine ⌝ }
-    ensures { λ r. ⌜ Ran (price .0) (rightOf machine) r ⌝ }
+fn run(machine: Machine, rates: Rates) -> Passed
+    requires { ⌜ Runnable rates machine ⌝ }
+    ensures { λ r. ⌜ Ran rates (rightOf machine) r ⌝ }
 {
     let mut list = machine;
     let mut looks: u32 = 0;
     while list.right < 4097 {
-        let step = look(list, price);
+        let step = look(list, rates);
         list = step.list;
         looks += step.looks;
     }
@@ -290,12 +293,12 @@ fn read_off(machine: Machine, list: &[u8], choice: &mut [u8])
 }
 
 // The pass over a list: writes its choice, one byte for each record, and returns the number of looks.
-pub fn pass_choice(price: DiskBytes, list: &[u8], choice: &mut [u8]) -> u32
-    requires { ⌜ Passable (price .0) (now list) (now choice) ⌝ }
-    ensures { λ r. ⌜ PassIn (price .0) (now (list .entry)) (now (choice .entry)) (now (choice .exit)) r ⌝ }
+pub fn pass_choice(rates: Rates, list: &[u8], choice: &mut [u8]) -> u32
+    requires { ⌜ Passable rates (now list) (now choice) ⌝ }
+    ensures { λ r. ⌜ PassIn rates (now (list .entry)) (now (choice .entry)) (now (choice .exit)) r ⌝ }
 {
     let loaded = load(list);
-    let passed = run(loaded, price);
+    let passed = run(loaded, rates);
     read_off(passed.list, list, choice);
     passed.looks
 }

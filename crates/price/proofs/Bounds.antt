@@ -1,16 +1,21 @@
 -- The price of an entry and the cost of a list fit 64 bits; what a price in range keeps to.
 -- Assumes nothing.
-use Prim.Native.Nat.{ℕ, _*_, _≤_}
+use Prim.Native.Nat.{ℕ, _+_, _*_, _≤_}
 use native.Mathlib.Omega.{arith}
 use native.Mathlib.Nat.{mul-le-mul}
 use mathlib.Core.Path.{_≡_, refl, ap}
 use mathlib.Core.Bool.{Bool, true, false, _&&_, cond}
+use mathlib.Core.List.{List, [], _∷_}
 use lib.Dec.{leb}
+use lib.ListN.{length}
 use borrow.Author.Tests.{leb-true}
+use Rattle.format.specs.declared.Record.{Record}
+use Rattle.format.specs.declared.Record.the-variants.{New, Match}
+use Rattle.format.specs.Meaning.{stored}
 use Rattle.format.proofs.Rulings.{both-of-and}
 use Rattle.price.specs.declared.DiskBytes.{DiskBytes}
 use Rattle.price.specs.declared.Priced.the-variants.{At, OutOfRange}
-use Rattle.price.specs.Price.{priceFits, priceOf, priced}
+use Rattle.price.specs.Price.{priceFits, priceOf, priced, news, matches, cost, ratesAt, RatesFit}
 
 pub product-most : (a b m n : ℕ) → a ≤ m → b ≤ n → a * b ≤ m * n
 product-most a b m n h k = mul-le-mul {n₁ = a} {m₁ = b} {n₂ = m} {m₂ = n} h k
@@ -49,3 +54,16 @@ unfit-of-range e f h = go (priceFits e f) refl h
     go : (t : Bool) → priceFits e f ≡ t → cond t (At (record { 0 = priceOf e f })) OutOfRange ≡ OutOfRange → priceFits e f ≡ false
     go true k l = absurd (let z : _≡_ {A = ℕ} 0 1 = cc in omega arith)
     go false k l = k
+
+-- ---- the rates at the price p of an entry
+
+pub entries : (l : List Record) → news l + matches l ≡ length l
+entries [] = refl
+entries (New s ∷ l) = omega (arith, entries l)
+entries (Match s a ∷ l) = omega (arith, entries l)
+
+pub cost-at : (p : ℕ) (l : List Record) → cost (ratesAt p) l ≡ p * length l + stored l
+cost-at p l = rw (← entries l) (omega arith)
+
+pub rates-fit-at : (p : ℕ) → p ≤ 16711425 → RatesFit (ratesAt p)
+rates-fit-at p h = record { fresh-most = h; kept-most = h; byte-most = omega arith }

@@ -3,13 +3,20 @@
 // Index bytes and disk bytes are two units: `worth` alone brings them together.
 ghost use mathlib.Core.Path.{_≡_};
 ghost use Prim.Native.Nat.{_+_, _*_, _≤_, _<_};
-ghost use Rattle.price.specs.Price.{priced};
+ghost use Rattle.price.specs.Price.{priced, ratesAt, RatesFit, Storing};
 
 // Bytes of the index.
 pub struct IndexBytes(pub u64);
 
 // Bytes of disk, the unit of cost.
 pub struct DiskBytes(pub u64);
+
+// What a list costs by its parts: a new entry, a kept match, and a stored byte.
+pub struct Rates {
+    pub fresh: DiskBytes,
+    pub kept: DiskBytes,
+    pub byte: DiskBytes,
+}
 
 // The price of an entry, where E and F are in their ranges.
 pub enum Priced {
@@ -49,6 +56,25 @@ pub fn disk(bytes: u32) -> DiskBytes
     ensures { λ r. ⌜ r ≡ record { 0 = bytes } ⌝ }
 {
     DiskBytes(bytes as u64)
+}
+
+// The rates where each entry costs p, new or match, and a stored byte 1.
+pub fn rates_of(p: DiskBytes) -> Rates
+    ensures { λ r. ⌜ r ≡ ratesAt (p .0) ⌝ }
+{
+    Rates {
+        fresh: p,
+        kept: p,
+        byte: DiskBytes(1),
+    }
+}
+
+// What so many stored bytes cost.
+pub fn storing(rates: Rates, bytes: u32) -> DiskBytes
+    requires { ⌜ RatesFit rates ⌝ }
+    ensures { λ r. ⌜ Storing rates bytes r ⌝ }
+{
+    DiskBytes(rates.byte.0 * (bytes as u64))
 }
 
 // The cost of so many entries and stored bytes, at the price p of an entry.

@@ -12,6 +12,7 @@ use Rattle.format.specs.declared.Record.{Record}
 use Rattle.format.specs.Record.{rowAt, recordOf, recordsOf}
 use Rattle.format.specs.Meaning.{sizeOf}
 use Rattle.format.proofs.Rows.{recordsFrom, recordsFrom-next, recordsFrom-none, recordsFrom-all, length-recordsOf}
+use Rattle.price.specs.declared.Rates.{Rates}
 use Rattle.choice.specs.Choice.{Bit, keep, store, bitByte, bitBytes, only, either, freedom, least}
 use Rattle.choice.proofs.Path.{pickBit, follow, follow-pick}
 use Rattle.choice.proofs.Least.{after, step, least-pick, least-cost, least-fits}
@@ -22,20 +23,23 @@ use Rattle.sweep.specs.Sweep.{hintByte, hintBytes, turned, bestOf, hints
 abbrev made : ℕ → ℕ → ℕ → Turn
 made k h b = record { kept = record { 0 = k }; stored = record { 0 = h }; hint = b }
 
--- the turn that the code makes, by its tests
-module _ (price : ℕ) (r : Record) (kept held w : ℕ) (e : w ≡ sizeOf r) where
-  pub turned-only : freedom r ≡ only store → made (price + w + held) (w + held) 3 ≡ turned price r kept held
+-- the turn that the code makes, by its tests: w is what storing the record's bytes costs
+module _ (rates : Rates) (r : Record) (kept held w : ℕ) (e : w ≡ rates .byte .0 * sizeOf r) where
+  pub turned-only : freedom r ≡ only store → made (rates .fresh .0 + w + held) (w + held) 3 ≡ turned rates r kept held
   turned-only f = rw (← e, f)
 
-  pub turned-keep : freedom r ≡ either → price + kept ≤ price + w + held → price + kept ≤ w + held → made (price + kept) (price + kept) 0 ≡ turned price r kept held
+  pub turned-keep : freedom r ≡ either → rates .kept .0 + kept ≤ rates .fresh .0 + w + held → rates .kept .0 + kept ≤ w + held
+      → made (rates .kept .0 + kept) (rates .kept .0 + kept) 0 ≡ turned rates r kept held
   turned-keep f h k = rw (← e, f, le-leb _ _ h, le-leb _ _ k)
 
-  pub turned-join : freedom r ≡ either → price + kept ≤ price + w + held → w + held < price + kept → made (price + kept) (w + held) 2 ≡ turned price r kept held
+  pub turned-join : freedom r ≡ either → rates .kept .0 + kept ≤ rates .fresh .0 + w + held → w + held < rates .kept .0 + kept
+      → made (rates .kept .0 + kept) (w + held) 2 ≡ turned rates r kept held
   turned-join f h k = rw (← e, f, le-leb _ _ h, lt-leb _ _ k)
 
-  pub turned-store : freedom r ≡ either → price + w + held < price + kept → made (price + w + held) (w + held) 3 ≡ turned price r kept held
+  pub turned-store : freedom r ≡ either → rates .fresh .0 + w + held < rates .kept .0 + kept
+      → made (rates .fresh .0 + w + held) (w + held) 3 ≡ turned rates r kept held
   turned-store f h =
-      let k : w + held < price + kept = omega arith in
+      let k : w + held < rates .kept .0 + kept = omega arith in
       rw (← e, f, lt-leb _ _ h, lt-leb _ _ k)
 
 pub records-end : (list : List ℕ) (n : ℕ) → recordsFrom list n n ≡ []
@@ -46,11 +50,11 @@ records-back list n i h k =
     let e : i - 1 + 1 ≡ i = omega arith in
     recordsFrom-next list n (i - 1) (omega arith) ∙ ap (λ (j : ℕ). recordOf (rowAt list (i - 1)) ∷ recordsFrom list n j) e
 
-pub back-turn : (price : ℕ) (list : List ℕ) (n i kept held : ℕ) → 0 < i → i ≤ n → kept ≡ bestOf price (recordsFrom list n i) keep → held ≡ bestOf price (recordsFrom list n i) store
-    → (t : Turn) → t ≡ turned price (recordOf (rowAt list (i - 1))) kept held
-    → (t .kept .0 ≡ bestOf price (recordsFrom list n (i - 1)) keep) × (t .stored .0 ≡ bestOf price (recordsFrom list n (i - 1)) store)
-    × (t .hint ∷ hintBytes (hintsOf price (recordsFrom list n i)) ≡ hintBytes (hintsOf price (recordsFrom list n (i - 1))))
-back-turn price list n i kept held h k ek eh t e = rw (e, ek, eh, records-back list n i h k) (refl, refl, refl)
+pub back-turn : (rates : Rates) (list : List ℕ) (n i kept held : ℕ) → 0 < i → i ≤ n → kept ≡ bestOf rates (recordsFrom list n i) keep → held ≡ bestOf rates (recordsFrom list n i) store
+    → (t : Turn) → t ≡ turned rates (recordOf (rowAt list (i - 1))) kept held
+    → (t .kept .0 ≡ bestOf rates (recordsFrom list n (i - 1)) keep) × (t .stored .0 ≡ bestOf rates (recordsFrom list n (i - 1)) store)
+    × (t .hint ∷ hintBytes (hintsOf rates (recordsFrom list n i)) ≡ hintBytes (hintsOf rates (recordsFrom list n (i - 1))))
+back-turn rates list n i kept held h k ek eh t e = rw (e, ek, eh, records-back list n i h k) (refl, refl, refl)
 
 pub set-back : (c e : List ℕ) (i x : ℕ) → 0 < i → i ≤ length c → set (take i c ++ e) (i - 1) x ≡ take (i - 1) c ++ (x ∷ e)
 set-back c e i x h k =
@@ -86,29 +90,29 @@ pub forwards-follow : (b : Bit) (hs : List (Bit × Bit)) (t : List ℕ) → forw
 forwards-follow b [] t = refl
 forwards-follow b (h ∷ hs) t = rw (next-pick b h) (ap (λ (l : List ℕ). bitByte (pickBit b h) ∷ l) (forwards-follow (pickBit b h) hs t))
 
-length-hints : (price : ℕ) (rs : List Record) → length (hintsOf price rs) ≡ length rs
-length-hints price [] = refl
-length-hints price (r ∷ rs) = ap suc (length-hints price rs)
+length-hints : (rates : Rates) (rs : List Record) → length (hintsOf rates rs) ≡ length rs
+length-hints rates [] = refl
+length-hints rates (r ∷ rs) = ap suc (length-hints rates rs)
 
 -- the sweep from the front over what the sweep from the rear left is the least choice
-pub forwards-least : (price : ℕ) (list t : List ℕ) → let n = length list / 12 in
-    forwards n 0 (hintBytes (hintsOf price (recordsFrom list n 0)) ++ t) ≡ bitBytes (least price (recordsOf list)) ++ t
-forwards-least price list t =
+pub forwards-least : (rates : Rates) (list t : List ℕ) → let n = length list / 12 in
+    forwards n 0 (hintBytes (hintsOf rates (recordsFrom list n 0)) ++ t) ≡ bitBytes (least rates (recordsOf list)) ++ t
+forwards-least rates list t =
     let rs = recordsOf list in
-    let e : length list / 12 ≡ length (hintsOf price rs) = sym (length-hints price rs ∙ length-recordsOf list) in
+    let e : length list / 12 ≡ length (hintsOf rates rs) = sym (length-hints rates rs ∙ length-recordsOf list) in
     rw (← recordsFrom-all list)
-    (ap (λ (m : ℕ). forwards m 0 (hintBytes (hintsOf price rs) ++ t)) e
-    ∙ forwards-follow keep (hintsOf price rs) t
-    ∙ ap (λ (c : List Bit). bitBytes c ++ t) (follow-pick after (step price) (λ b. b) rs keep ∙ sym (least-pick price rs)))
+    (ap (λ (m : ℕ). forwards m 0 (hintBytes (hintsOf rates rs) ++ t)) e
+    ∙ forwards-follow keep (hintsOf rates rs) t
+    ∙ ap (λ (c : List Bit). bitBytes c ++ t) (follow-pick after (step rates) (λ b. b) rs keep ∙ sym (least-pick rates rs)))
 
 -- what both sweeps leave
-pub least-in : (price : ℕ) (list before middle after : List ℕ) (r : ℕ) → Back price list (length list / 12) before middle r → after ≡ forwards (length list / 12) 0 middle → LeastIn price list before after r
-least-in price list before middle after r b e =
-    let n : length (bitBytes (least price (recordsOf list))) ≡ length list / 12 =
-    length-bits (least price (recordsOf list)) ∙ length-choice (recordsOf list) (least price (recordsOf list)) (least-fits price (recordsOf list)) ∙ length-recordsOf list in
+pub least-in : (rates : Rates) (list before middle after : List ℕ) (r : ℕ) → Back rates list (length list / 12) before middle r → after ≡ forwards (length list / 12) 0 middle → LeastIn rates list before after r
+least-in rates list before middle after r b e =
+    let n : length (bitBytes (least rates (recordsOf list))) ≡ length list / 12 =
+    length-bits (least rates (recordsOf list)) ∙ length-choice (recordsOf list) (least rates (recordsOf list)) (least-fits rates (recordsOf list)) ∙ length-recordsOf list in
     record {
       area =
-          e ∙ ap (forwards (length list / 12) 0) (b .area) ∙ forwards-least price list (drop (length list / 12) before)
-          ∙ ap (λ (k : ℕ). bitBytes (least price (recordsOf list)) ++ drop k before) (sym n);
-      cost-is = b .least-cost ∙ ap (λ (x : List Record). bestOf price x keep) (sym (recordsFrom-all list)) ∙ sym (least-cost price (recordsOf list));
+          e ∙ ap (forwards (length list / 12) 0) (b .area) ∙ forwards-least rates list (drop (length list / 12) before)
+          ∙ ap (λ (k : ℕ). bitBytes (least rates (recordsOf list)) ++ drop k before) (sym n);
+      cost-is = b .least-cost ∙ ap (λ (x : List Record). bestOf rates x keep) (sym (recordsFrom-all list)) ∙ sym (least-cost rates (recordsOf list));
     }

@@ -10,6 +10,8 @@ use Rattle.format.specs.declared.Record.{Record}
 use Rattle.format.specs.Record.{recordsOf}
 use Rattle.format.specs.Meaning.{sizeOf}
 use Rattle.format.proofs.Rows.{recordsFrom}
+use Rattle.price.specs.declared.Rates.{Rates}
+use Rattle.price.specs.Price.{RatesFit}
 use Rattle.area.specs.Area.{over}
 use Rattle.choice.specs.Choice.{Bit, keep, bitByte, bitBytes, freedom, costOf, least}
 use Rattle.choice.proofs.Path.{decide, at, best, hints}
@@ -24,40 +26,40 @@ abbrev pub hintBytes : List (Bit × Bit) → List ℕ
 hintBytes [] = []
 hintBytes (h ∷ hs) = hintByte h ∷ hintBytes hs
 
--- one record of the sweep from the rear, where the rest costs at least `kept` after it is kept and `stored` after it is stored
-abbrev pub turned : ℕ → Record → ℕ → ℕ → Turn
-turned price r kept stored =
-    let d = decide (freedom r) (price + kept) (price + sizeOf r + stored) in
-    let e = decide (freedom r) (price + kept) (sizeOf r + stored) in
-    record {
-      kept = record { 0 = at d (price + kept) (price + sizeOf r + stored) };
-      stored = record { 0 = at e (price + kept) (sizeOf r + stored) };
-      hint = hintByte (d, e);
-    }
+-- one record of the sweep from the rear, where the rest costs at least `kept` after it is kept and `stored` after it is stored: what keeping it
+-- comes to, storing it after a kept record, and storing it after a stored one
+abbrev pub turned : Rates → Record → ℕ → ℕ → Turn
+turned rates r kept stored =
+    let k = rates .kept .0 + kept in
+    let f = rates .fresh .0 + rates .byte .0 * sizeOf r + stored in
+    let j = rates .byte .0 * sizeOf r + stored in
+    let d = decide (freedom r) k f in
+    let e = decide (freedom r) k j in
+    record { kept = record { 0 = at d k f }; stored = record { 0 = at e k j }; hint = hintByte (d, e) }
 
-pub record Turned (price : ℕ) (r : Record) (kept stored : ℕ) (t : Turn) : Type 0 where
-  pub is : t ≡ turned price r kept stored
-  pub kept-most : t .kept .0 < price + stored + 4294967296
-  pub stored-most : t .stored .0 < stored + 4294967296
+pub record Turned (rates : Rates) (r : Record) (kept stored : ℕ) (t : Turn) : Type 0 where
+  pub is : t ≡ turned rates r kept stored
+  pub kept-most : t .kept .0 < rates .fresh .0 + stored + 1099511627776
+  pub stored-most : t .stored .0 < stored + 1099511627776
 
 -- the least cost of the records, after the bit b
-abbrev pub bestOf : ℕ → List Record → Bit → ℕ
-bestOf price rs b = best after (step price) rs b
+abbrev pub bestOf : Rates → List Record → Bit → ℕ
+bestOf rates rs b = best after (step rates) rs b
 
-abbrev pub hintsOf : ℕ → List Record → List (Bit × Bit)
-hintsOf price rs = hints after (step price) (λ b. b) rs
+abbrev pub hintsOf : Rates → List Record → List (Bit × Bit)
+hintsOf rates rs = hints after (step rates) (λ b. b) rs
 
 -- what the sweeps ask: n records, and a byte for each
-pub record Room (price : ℕ) (list : List ℕ) (n : ℕ) (choice : List ℕ) : Type 0 where
-  pub price-most : price ≤ 16711425
+pub record Room (rates : Rates) (list : List ℕ) (n : ℕ) (choice : List ℕ) : Type 0 where
+  pub rates-fit : RatesFit rates
   pub n-most : n ≤ 4096
   pub in-list : 12 * n ≤ length list
   pub in-choice : n ≤ length choice
 
 -- after the sweep from the rear
-pub record Back (price : ℕ) (list : List ℕ) (n : ℕ) (before after : List ℕ) (r : ℕ) : Type 0 where
-  pub least-cost : r ≡ bestOf price (recordsFrom list n 0) keep
-  pub area : after ≡ hintBytes (hintsOf price (recordsFrom list n 0)) ++ drop n before
+pub record Back (rates : Rates) (list : List ℕ) (n : ℕ) (before after : List ℕ) (r : ℕ) : Type 0 where
+  pub least-cost : r ≡ bestOf rates (recordsFrom list n 0) keep
+  pub area : after ≡ hintBytes (hintsOf rates (recordsFrom list n 0)) ++ drop n before
 
 -- the bit after the bit b, where the two to choose from are in the byte h
 abbrev pub nextBit : ℕ → ℕ → ℕ
@@ -70,6 +72,6 @@ forwards (suc m) b [] = []
 forwards (suc m) b (h ∷ hs) = nextBit b h ∷ forwards m (nextBit b h) hs
 
 -- after both: the choice area begins with the least choice, and r is the cost of its list
-pub record LeastIn (price : ℕ) (list before after : List ℕ) (r : ℕ) : Type 0 where
-  pub area : after ≡ over (bitBytes (least price (recordsOf list))) before
-  pub cost-is : r ≡ costOf price (recordsOf list) (least price (recordsOf list))
+pub record LeastIn (rates : Rates) (list before after : List ℕ) (r : ℕ) : Type 0 where
+  pub area : after ≡ over (bitBytes (least rates (recordsOf list))) before
+  pub cost-is : r ≡ costOf rates (recordsOf list) (least rates (recordsOf list))

@@ -5,9 +5,11 @@
 ghost use mathlib.Core.Path.{_≡_};
 ghost use Prim.Native.Nat.{_+_, _/_, _≤_, _<_};
 ghost use lib.ListN.{length};
+ghost use Rattle.price.specs.Price.{RatesFit};
 ghost use Rattle.sweep.specs.Sweep.{Turned, Room, Back, nextBit, forwards, LeastIn};
 use format::Record;
 use price::DiskBytes;
+use price::Rates;
 
 // What a record comes to: the least costs from it on, after a kept and after a stored record, and its two bits.
 pub struct Turn {
@@ -17,14 +19,14 @@ pub struct Turn {
 }
 
 // One record from the rear: `kept` and `stored` are the least costs of what follows it, after it is kept and after it is stored.
-fn weigh(price: DiskBytes, item: Record, kept: DiskBytes, stored: DiskBytes) -> Turn
-    requires { ⌜ (price .0 ≤ 16711425) × (kept .0 ≤ 17592202756096) × (stored .0 ≤ 17592202756096) ⌝ }
-    ensures { λ t. ⌜ Turned (price .0) item (kept .0) (stored .0) t ⌝ }
+fn weigh(rates: Rates, item: Record, kept: DiskBytes, stored: DiskBytes) -> Turn
+    requires { ⌜ (RatesFit rates) × (kept .0 ≤ 4503599644082176) × (stored .0 ≤ 4503599644082176) ⌝ }
+    ensures { λ t. ⌜ Turned rates item (kept .0) (stored .0) t ⌝ }
 {
-    let size = price::disk(choice::size_of(item));
-    let keep = DiskBytes(price.0 + kept.0);
-    let fresh = DiskBytes(price.0 + size.0 + stored.0);
-    let joined = DiskBytes(size.0 + stored.0);
+    let bytes = price::storing(rates, choice::size_of(item));
+    let keep = DiskBytes(rates.kept.0 + kept.0);
+    let fresh = DiskBytes(rates.fresh.0 + bytes.0 + stored.0);
+    let joined = DiskBytes(bytes.0 + stored.0);
     if let Record::New(_) = item {
         return Turn {
             kept: fresh,
@@ -33,7 +35,7 @@ fn weigh(price: DiskBytes, item: Record, kept: DiskBytes, stored: DiskBytes) -> 
         };
     }
     if keep.0 <= fresh.0 {
-        if price.0 + kept.0 <= joined.0 {
+        if rates.kept.0 + kept.0 <= joined.0 {
             return Turn {
                 kept: keep,
                 stored: keep,
@@ -54,9 +56,9 @@ fn weigh(price: DiskBytes, item: Record, kept: DiskBytes, stored: DiskBytes) -> 
 }
 
 // The sweep from the rear: the two bits of each record, and the least cost of all.
-fn backwards(price: DiskBytes, list: &[u8], n: usize, choice: &mut [u8]) -> DiskBytes
-    requires { ⌜ Room (price .0) (now list) n (now choice) ⌝ }
-    ensures { λ r. ⌜ Back (price .0) (now (list .entry)) n (now (choice .entry)) (now (choice .exit)) (r .0) ⌝ }
+fn backwards(rates: Rates, list: &[u8], n: usize, choice: &mut [u8]) -> DiskBytes
+    requires { ⌜ Room rates (now list) n (now choice) ⌝ }
+    ensures { λ r. ⌜ Back rates (now (list .entry)) n (now (choice .entry)) (now (choice .exit)) (r .0) ⌝ }
 {
     let mut i = n;
     let mut kept = DiskBytes(0);
@@ -64,7 +66,7 @@ fn backwards(price: DiskBytes, list: &[u8], n: usize, choice: &mut [u8]) -> Disk
     while 0 < i {
         i -= 1;
         let t = weigh(
-            price,
+            rates,
             format::record_of(format::row_at(list, i)),
             kept,
             stored,
@@ -101,12 +103,12 @@ fn settle(n: usize, choice: &mut [u8])
 }
 
 // The least choice, one byte for each record, and the cost of its list.
-pub fn least_choice(price: DiskBytes, list: &[u8], choice: &mut [u8]) -> DiskBytes
-    requires { ⌜ Room (price .0) (now list) (length (now list) / 12) (now choice) ⌝ }
-    ensures { λ r. ⌜ LeastIn (price .0) (now (list .entry)) (now (choice .entry)) (now (choice .exit)) (r .0) ⌝ }
+pub fn least_choice(rates: Rates, list: &[u8], choice: &mut [u8]) -> DiskBytes
+    requires { ⌜ Room rates (now list) (length (now list) / 12) (now choice) ⌝ }
+    ensures { λ r. ⌜ LeastIn rates (now (list .entry)) (now (choice .entry)) (now (choice .exit)) (r .0) ⌝ }
 {
     let n = list.len() / 12;
-    let cost = backwards(price, list, n, choice);
+    let cost = backwards(rates, list, n, choice);
     settle(n, choice);
     cost
 }

@@ -3,7 +3,6 @@ use Prim.Native.Nat.{_+_, _*_}
 use native.Mathlib.Omega.{arith}
 use mathlib.Core.Path.{_≡_, sym, _∙_}
 use borrow.Author.Tests.{eq-eqb, ne-eqb, lt-ltb, le-ltb}
-use Rattle.price.proofs.Bounds.{as-number}
 use Rattle.pass.specs.declared.Merge.the-variants.{Both, Before}
 use Rattle.pass.specs.declared.Outcome.the-variants.{Advance, Merged}
 use Rattle.pass.specs.Pass.{testsOf}
@@ -12,11 +11,11 @@ use borrow.Author.Needs.{needs}
 use Rattle.pass.proofs.after_new.Statement.{statement}
 use Rattle.pass.proofs.after_new.Tie as tie
 
-disk-requires : tie.Need-disk-requires
-disk-requires c κs = search needs
+storing-requires : tie.Need-storing-requires
+storing-requires c κs = search needs
 
-mul-t7 : tie.Need-mul-t7
-mul-t7 c = search needs
+add-t7 : tie.Need-add-t7
+add-t7 c = search needs
 
 add-t10 : tie.Need-add-t10
 add-t10 c = search needs
@@ -27,19 +26,19 @@ add-t11 c = search needs
 returns : tie.Need-returns
 returns c =
     let g = c .before .before .before .before .before .before .before .before .args in
-    let s = as-number (c .before .before .before .before .before .before .before .disk .ensures) in
-    let t = testsOf (g .price .0) in
+    let s = c .before .before .before .before .before .before .before .storing .ensures .is in
+    let t = testsOf (g .rates) in
     λ second.
-    let is : outcomeBy t 0 (g .before) 1 (g .size) (g .after .kind) (g .after .size) second ≡ Merged (Both (g .before + g .size + g .after .size)) = simp (eq-eqb (g .after .kind) 0 (omega arith), lt-ltb (g .size) (2 * g .price .0) (omega arith)) in
+    let is : outcomeBy t 0 (g .before) 1 (g .size) (g .after .kind) (g .after .size) second ≡ Merged (Both (g .before + g .size + g .after .size)) = simp (eq-eqb (g .after .kind) 0 (omega arith), lt-ltb (g .rates .byte .0 * g .size) (g .rates .kept .0 + g .rates .fresh .0) (omega arith)) in
     sym is ∙ outcome-by t 0 (g .before) 1 (g .size) (g .after .kind) (g .after .size) second
 
 returns-2 : tie.Need-returns-2
 returns-2 c =
     let g = c .before .before .before .before .before .before .before .args in
-    let s = as-number (c .before .before .before .before .before .before .disk .ensures) in
-    let t = testsOf (g .price .0) in
+    let s = c .before .before .before .before .before .before .storing .ensures .is in
+    let t = testsOf (g .rates) in
     λ second.
-    let is : outcomeBy t 0 (g .before) 1 (g .size) (g .after .kind) (g .after .size) second ≡ Advance = simp (eq-eqb (g .after .kind) 0 (omega arith), le-ltb (g .size) (2 * g .price .0) (omega arith), le-ltb (g .size) (g .price .0) (omega arith), not-one-of-zero _ (c .before .before .before .if1 .taken)) in
+    let is : outcomeBy t 0 (g .before) 1 (g .size) (g .after .kind) (g .after .size) second ≡ Advance = simp (eq-eqb (g .after .kind) 0 (omega arith), le-ltb (g .rates .byte .0 * g .size) (g .rates .kept .0 + g .rates .fresh .0) (omega arith), le-ltb (g .rates .byte .0 * g .size) (g .rates .kept .0) (omega arith), not-one-of-zero _ (c .before .before .before .if1 .taken)) in
     sym is ∙ outcome-by t 0 (g .before) 1 (g .size) (g .after .kind) (g .after .size) second
 
 add-t13 : tie.Need-add-t13
@@ -48,21 +47,21 @@ add-t13 c = search needs
 returns-3 : tie.Need-returns-3
 returns-3 c =
     let g = c .before .before .before .before .before .before .before .args in
-    let s = as-number (c .before .before .before .before .before .before .disk .ensures) in
-    let t = testsOf (g .price .0) in
+    let s = c .before .before .before .before .before .before .storing .ensures .is in
+    let t = testsOf (g .rates) in
     λ second.
-    let is : outcomeBy t 0 (g .before) 1 (g .size) (g .after .kind) (g .after .size) second ≡ Merged (Before (g .before + g .size)) = simp (ne-eqb (g .after .kind) 0 (omega arith), lt-ltb (g .size) (g .price .0) (omega arith)) in
+    let is : outcomeBy t 0 (g .before) 1 (g .size) (g .after .kind) (g .after .size) second ≡ Merged (Before (g .before + g .size)) = simp (ne-eqb (g .after .kind) 0 (omega arith), lt-ltb (g .rates .byte .0 * g .size) (g .rates .kept .0) (omega arith)) in
     sym is ∙ outcome-by t 0 (g .before) 1 (g .size) (g .after .kind) (g .after .size) second
 
 returns-4 : tie.Need-returns-4
 returns-4 c =
     let g = c .before .before .before .before .before .before .before .args in
-    let s = as-number (c .before .before .before .before .before .before .disk .ensures) in
-    let t = testsOf (g .price .0) in
+    let s = c .before .before .before .before .before .before .storing .ensures .is in
+    let t = testsOf (g .rates) in
     λ second.
-    let is : outcomeBy t 0 (g .before) 1 (g .size) (g .after .kind) (g .after .size) second ≡ Advance = simp (ne-eqb (g .after .kind) 0 (omega arith), le-ltb (g .size) (g .price .0) (omega arith), and-false) in
+    let is : outcomeBy t 0 (g .before) 1 (g .size) (g .after .kind) (g .after .size) second ≡ Advance = simp (ne-eqb (g .after .kind) 0 (omega arith), le-ltb (g .rates .byte .0 * g .size) (g .rates .kept .0) (omega arith), and-false) in
     sym is ∙ outcome-by t 0 (g .before) 1 (g .size) (g .after .kind) (g .after .size) second
 
 pub after-new-spec : {M : Type 1} → statement M
 after-new-spec =
-    tie.close (tie.spec disk-requires mul-t7 add-t10 add-t11 returns returns-2 add-t13 returns-3 returns-4)
+    tie.close (tie.spec storing-requires add-t7 add-t10 add-t11 returns returns-2 add-t13 returns-3 returns-4)

@@ -14,7 +14,7 @@ advanced-requires : tie.Need-advanced-requires
 advanced-requires c κs = search needs
 
 returns : tie.Need-returns
-returns c = looked-front (c .before .before .args .price .0) (c .before .before .args .t1) (c .before .before .pre) (c .before .if1 .taken) _ refl (omega arith) (c .advanced .ensures)
+returns c = looked-front (c .before .before .args .rates) (c .before .before .args .t1) (c .before .before .pre) (c .before .if1 .taken) _ refl (omega arith) (c .advanced .ensures)
 
 sub-near : tie.Need-sub-near
 sub-near c = search needs
@@ -62,17 +62,17 @@ element-copy-out-t40 : tie.Need-element-copy-out-t40
 element-copy-out-t40 c = search needs
 
 outcome-at-requires : tie.Need-outcome-at-requires
-outcome-at-requires c κs = (c .before .before .before .before .before .before .before .before .pre .price-most, sizes-fit (c .before .before .before .before .before .before .before .before .args .price .0) (c .before .before .before .before .before .before .before .before .args .t1) (c .before .before .before .before .before .before .before .before .pre) (pos-of-ne-zero (c .before .before .before .before .before .before .before .if1 .left)))
+outcome-at-requires c κs = (c .before .before .before .before .before .before .before .before .pre .rates-fit, sizes-fit (c .before .before .before .before .before .before .before .before .args .rates) (c .before .before .before .before .before .before .before .before .args .t1) (c .before .before .before .before .before .before .before .before .pre) (pos-of-ne-zero (c .before .before .before .before .before .before .before .if1 .left)))
 
 carried-requires : tie.Need-carried-requires
-carried-requires c κs = outcome-reaches (c .before .before .before .before .before .before .before .before .before .args .price .0) (c .before .before .before .before .before .before .before .before .before .args .t1) (c .before .before .before .before .before .before .before .before .before .pre) (pos-of-ne-zero (c .before .before .before .before .before .before .before .before .if1 .left)) (c .outcome-at .result) (cellItem (c .before .if2 .second)) (c .outcome-at .ensures)
+carried-requires c κs = outcome-reaches (c .before .before .before .before .before .before .before .before .before .args .rates) (c .before .before .before .before .before .before .before .before .before .args .t1) (c .before .before .before .before .before .before .before .before .before .pre) (pos-of-ne-zero (c .before .before .before .before .before .before .before .before .if1 .left)) (c .outcome-at .result) (cellItem (c .before .if2 .second)) (c .outcome-at .ensures)
 
 returns-2 : tie.Need-returns-2
 returns-2 c =
     let m = c .before .before .before .before .before .before .before .before .before .before .args .t1 in
     let second : cellItem (c .before .before .if2 .second) ≡ first (rest (afterOf m)) =
-    ⊎-elim (λ w. ap cellItem (w .3) ∙ second-near (c .before .before .before .before .before .before .before .before .before .before .args .price .0) m (c .before .before .before .before .before .before .before .before .before .before .pre) (w .0 .taken)) (λ w. ap cellItem (w .1) ∙ second-none (c .before .before .before .before .before .before .before .before .before .before .args .price .0) m (c .before .before .before .before .before .before .before .before .before .before .pre) (w .0 .left)) (c .before .before .if2 .came) in
-    looked-of-carried (c .before .before .before .before .before .before .before .before .before .before .args .price .0) m (c .before .before .before .before .before .before .before .before .before .before .pre) (pos-of-ne-zero (c .before .before .before .before .before .before .before .before .before .if1 .left)) (c .before .outcome-at .result) (cellItem (c .before .before .if2 .second)) (c .before .outcome-at .ensures) second _ refl (omega arith) (c .carried .ensures)
+    ⊎-elim (λ w. ap cellItem (w .3) ∙ second-near (c .before .before .before .before .before .before .before .before .before .before .args .rates) m (c .before .before .before .before .before .before .before .before .before .before .pre) (w .0 .taken)) (λ w. ap cellItem (w .1) ∙ second-none (c .before .before .before .before .before .before .before .before .before .before .args .rates) m (c .before .before .before .before .before .before .before .before .before .before .pre) (w .0 .left)) (c .before .before .if2 .came) in
+    looked-of-carried (c .before .before .before .before .before .before .before .before .before .before .args .rates) m (c .before .before .before .before .before .before .before .before .before .before .pre) (pos-of-ne-zero (c .before .before .before .before .before .before .before .before .before .if1 .left)) (c .before .outcome-at .result) (cellItem (c .before .before .if2 .second)) (c .before .outcome-at .ensures) second _ refl (omega arith) (c .carried .ensures)
 
 pub look-spec : {M : Type 1} → statement M
 look-spec =

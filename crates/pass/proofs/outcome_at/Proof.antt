@@ -1,9 +1,8 @@
 -- `pass::outcome_at` meets its contract: each way out is the first rule that applies there, by kinds. Assumes nothing.
-use Prim.Native.Nat.{_+_}
+use Prim.Native.Nat.{_+_, _*_}
 use native.Mathlib.Omega.{arith}
 use mathlib.Core.Path.{_≡_, sym, ap₂, _∙_}
 use borrow.Author.Tests.{eq-eqb, ne-eqb, lt-ltb, le-ltb}
-use Rattle.price.proofs.Bounds.{as-number}
 use Rattle.pass.specs.declared.Merge.the-variants.{After, Pair}
 use Rattle.pass.specs.declared.Outcome.the-variants.{Advance, Merged}
 use Rattle.pass.specs.Pass.{Item, testsOf, outcomeAt}
@@ -16,7 +15,7 @@ use Rattle.pass.proofs.outcome_at.Tie as tie
 returns : tie.Need-returns
 returns c =
     let g = c .before .before .args in
-    let t = testsOf (g .price .0) in
+    let t = testsOf (g .rates) in
     let is : outcomeBy t (g .before .kind) (g .before .size) (g .p .kind) (g .p .size) (g .after .kind) (g .after .size) (cellItem (g .second)) ≡ Advance = simp (ne-eqb (g .p .kind) 1 (omega arith)) in
     sym is ∙ outcome-by t (g .before .kind) (g .before .size) (g .p .kind) (g .p .size) (g .after .kind) (g .after .size) (cellItem (g .second))
 
@@ -28,67 +27,73 @@ returns-2 c =
     let g = c .before .before .before .before .before .args in
     let b = item-of-zero (g .before .kind) (g .before .size) (c .before .if2 .taken) in
     let p = item-of-one (g .p .kind) (g .p .size) (c .before .before .before .if1 .left) in
-    c .after-new .ensures (cellItem (g .second)) ∙ sym (ap₂ (λ (x y : Item). outcomeAt (testsOf (g .price .0)) x y (cellItem (g .after)) (cellItem (g .second))) b p)
+    c .after-new .ensures (cellItem (g .second)) ∙ sym (ap₂ (λ (x y : Item). outcomeAt (testsOf (g .rates)) x y (cellItem (g .after)) (cellItem (g .second))) b p)
 
-disk-requires : tie.Need-disk-requires
-disk-requires c κs = search needs
+storing-requires : tie.Need-storing-requires
+storing-requires c κs = search needs
 
-add-t9 : tie.Need-add-t9
-add-t9 c = search needs
+add-t10 : tie.Need-add-t10
+add-t10 c = search needs
 
 returns-3 : tie.Need-returns-3
 returns-3 c =
     let g = c .before .before .before .before .before .before .before .before .before .before .before .before .args in
-    let s = as-number (c .before .before .before .before .before .disk .ensures) in
-    let t = testsOf (g .price .0) in
-    let is : outcomeBy t (g .before .kind) (g .before .size) (g .p .kind) (g .p .size) (g .after .kind) (g .after .size) (cellItem (g .second)) ≡ Merged (After (g .p .size + g .after .size)) = simp (eq-eqb (g .p .kind) 1 (omega arith), ne-eqb (g .before .kind) 0 (omega arith), eq-eqb (g .after .kind) 0 (omega arith), lt-ltb (g .p .size) (g .price .0) (omega arith)) in
+    let s = c .before .before .before .before .before .storing .ensures .is in
+    let t = testsOf (g .rates) in
+    let is : outcomeBy t (g .before .kind) (g .before .size) (g .p .kind) (g .p .size) (g .after .kind) (g .after .size) (cellItem (g .second)) ≡ Merged (After (g .p .size + g .after .size)) = simp (eq-eqb (g .p .kind) 1 (omega arith), ne-eqb (g .before .kind) 0 (omega arith), eq-eqb (g .after .kind) 0 (omega arith), lt-ltb (g .rates .byte .0 * g .p .size) (g .rates .kept .0) (omega arith)) in
     sym is ∙ outcome-by t (g .before .kind) (g .before .size) (g .p .kind) (g .p .size) (g .after .kind) (g .after .size) (cellItem (g .second))
 
 returns-4 : tie.Need-returns-4
 returns-4 c =
     let g = c .before .before .before .before .before .before .before .before .before .before .args in
-    let s = as-number (c .before .before .before .disk .ensures) in
-    let t = testsOf (g .price .0) in
-    let is : outcomeBy t (g .before .kind) (g .before .size) (g .p .kind) (g .p .size) (g .after .kind) (g .after .size) (cellItem (g .second)) ≡ Advance = simp (eq-eqb (g .p .kind) 1 (omega arith), ne-eqb (g .before .kind) 0 (omega arith), eq-eqb (g .after .kind) 0 (omega arith), le-ltb (g .p .size) (g .price .0) (omega arith), not-one-of-zero _ (c .before .before .before .before .if3 .taken)) in
+    let s = c .before .before .before .storing .ensures .is in
+    let t = testsOf (g .rates) in
+    let is : outcomeBy t (g .before .kind) (g .before .size) (g .p .kind) (g .p .size) (g .after .kind) (g .after .size) (cellItem (g .second)) ≡ Advance = simp (eq-eqb (g .p .kind) 1 (omega arith), ne-eqb (g .before .kind) 0 (omega arith), eq-eqb (g .after .kind) 0 (omega arith), le-ltb (g .rates .byte .0 * g .p .size) (g .rates .kept .0) (omega arith), not-one-of-zero _ (c .before .before .before .before .if3 .taken)) in
     sym is ∙ outcome-by t (g .before .kind) (g .before .size) (g .p .kind) (g .p .size) (g .after .kind) (g .after .size) (cellItem (g .second))
 
 returns-5 : tie.Need-returns-5
 returns-5 c =
     let g = c .before .before .before .before .before .before .before .before .args in
-    let t = testsOf (g .price .0) in
+    let t = testsOf (g .rates) in
     let is : outcomeBy t (g .before .kind) (g .before .size) (g .p .kind) (g .p .size) (g .after .kind) (g .after .size) (cellItem (g .second)) ≡ Advance = simp (eq-eqb (g .p .kind) 1 (omega arith), ne-eqb (g .before .kind) 0 (omega arith), ne-eqb (g .after .kind) 0 (omega arith), ne-eqb (g .after .kind) 1 (omega arith)) in
     sym is ∙ outcome-by t (g .before .kind) (g .before .size) (g .p .kind) (g .p .size) (g .after .kind) (g .after .size) (cellItem (g .second))
 
 returns-6 : tie.Need-returns-6
 returns-6 c =
     let g = c .before .before .before .before .before .before .before .before .before .before .args in
-    let t = testsOf (g .price .0) in
+    let t = testsOf (g .rates) in
     let is : outcomeBy t (g .before .kind) (g .before .size) (g .p .kind) (g .p .size) (g .after .kind) (g .after .size) (cellItem (g .second)) ≡ Advance = simp (eq-eqb (g .p .kind) 1 (omega arith), ne-eqb (g .before .kind) 0 (omega arith), ne-eqb (g .after .kind) 0 (omega arith), eq-eqb (g .after .kind) 1 (omega arith), new-item (g .second .kind) (g .second .size) ∙ eq-eqb (g .second .kind) 0 (omega arith)) in
     sym is ∙ outcome-by t (g .before .kind) (g .before .size) (g .p .kind) (g .p .size) (g .after .kind) (g .after .size) (cellItem (g .second))
 
-add-disk : tie.Need-add-disk
-add-disk c = search needs
+add-storing : tie.Need-add-storing
+add-storing c = search needs
 
-disk-requires-2 : tie.Need-disk-requires-2
-disk-requires-2 c κs = search needs
+storing-requires-2 : tie.Need-storing-requires-2
+storing-requires-2 c κs = search needs
 
-add-t13 : tie.Need-add-t13
-add-t13 c = search needs
+add-if7 : tie.Need-add-if7
+add-if7 c = search needs
+
+mul-if7 : tie.Need-mul-if7
+mul-if7 c = search needs
+
+add-t15 : tie.Need-add-t15
+add-t15 c = search needs
 
 returns-7 : tie.Need-returns-7
 returns-7 c =
-    let g = c .before .before .before .before .before .before .before .before .before .before .before .before .before .before .before .before .before .before .args in
-    let s = as-number (c .before .before .before .before .before .disk2 .ensures) in
-    let t = testsOf (g .price .0) in
-    let is : outcomeBy t (g .before .kind) (g .before .size) (g .p .kind) (g .p .size) (g .after .kind) (g .after .size) (cellItem (g .second)) ≡ Merged (Pair (g .p .size + g .after .size)) = simp (eq-eqb (g .p .kind) 1 (omega arith), ne-eqb (g .before .kind) 0 (omega arith), ne-eqb (g .after .kind) 0 (omega arith), eq-eqb (g .after .kind) 1 (omega arith), new-item (g .second .kind) (g .second .size) ∙ ne-eqb (g .second .kind) 0 (omega arith), lt-ltb (g .p .size + g .after .size) (g .price .0) (omega arith)) in
+    let g = c .before .before .before .before .before .before .before .before .before .before .before .before .before .before .before .before .before .before .before .args in
+    let s = c .before .before .before .before .before .before .storing2 .ensures .is in
+    let t = testsOf (g .rates) in
+    let is : outcomeBy t (g .before .kind) (g .before .size) (g .p .kind) (g .p .size) (g .after .kind) (g .after .size) (cellItem (g .second)) ≡ Merged (Pair (g .p .size + g .after .size)) = simp (eq-eqb (g .p .kind) 1 (omega arith), ne-eqb (g .before .kind) 0 (omega arith), ne-eqb (g .after .kind) 0 (omega arith), eq-eqb (g .after .kind) 1 (omega arith), new-item (g .second .kind) (g .second .size) ∙ ne-eqb (g .second .kind) 0 (omega arith), lt-ltb (g .rates .byte .0 * (g .p .size + g .after .size) + g .rates .fresh .0) (2 * g .rates .kept .0) (omega arith)) in
     sym is ∙ outcome-by t (g .before .kind) (g .before .size) (g .p .kind) (g .p .size) (g .after .kind) (g .after .size) (cellItem (g .second))
 
 returns-8 : tie.Need-returns-8
 returns-8 c =
-    let g = c .before .before .before .before .before .before .before .before .before .before .before .before .before .before .before .before .args in
-    let s = as-number (c .before .before .before .disk2 .ensures) in
-    let t = testsOf (g .price .0) in
-    let is : outcomeBy t (g .before .kind) (g .before .size) (g .p .kind) (g .p .size) (g .after .kind) (g .after .size) (cellItem (g .second)) ≡ Advance = simp (eq-eqb (g .p .kind) 1 (omega arith), ne-eqb (g .before .kind) 0 (omega arith), ne-eqb (g .after .kind) 0 (omega arith), eq-eqb (g .after .kind) 1 (omega arith), new-item (g .second .kind) (g .second .size) ∙ ne-eqb (g .second .kind) 0 (omega arith), le-ltb (g .p .size + g .after .size) (g .price .0) (omega arith)) in
+    let g = c .before .before .before .before .before .before .before .before .before .before .before .before .before .before .before .before .before .args in
+    let s = c .before .before .before .before .storing2 .ensures .is in
+    let t = testsOf (g .rates) in
+    let is : outcomeBy t (g .before .kind) (g .before .size) (g .p .kind) (g .p .size) (g .after .kind) (g .after .size) (cellItem (g .second)) ≡ Advance = simp (eq-eqb (g .p .kind) 1 (omega arith), ne-eqb (g .before .kind) 0 (omega arith), ne-eqb (g .after .kind) 0 (omega arith), eq-eqb (g .after .kind) 1 (omega arith), new-item (g .second .kind) (g .second .size) ∙ ne-eqb (g .second .kind) 0 (omega arith), le-ltb (g .rates .byte .0 * (g .p .size + g .after .size) + g .rates .fresh .0) (2 * g .rates .kept .0) (omega arith)) in
     sym is ∙ outcome-by t (g .before .kind) (g .before .size) (g .p .kind) (g .p .size) (g .after .kind) (g .after .size) (cellItem (g .second))
 
 pub outcome-at-spec : {M : Type 1} → statement M
@@ -98,14 +103,16 @@ outcome-at-spec =
     returns
     after-new-requires
     returns-2
-    disk-requires
-    add-t9
+    storing-requires
+    add-t10
     returns-3
     returns-4
     returns-5
     returns-6
-    add-disk
-    disk-requires-2
-    add-t13
+    add-storing
+    storing-requires-2
+    add-if7
+    mul-if7
+    add-t15
     returns-7
     returns-8)

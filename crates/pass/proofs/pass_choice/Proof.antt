@@ -17,15 +17,15 @@ load-requires : tie.Need-load-requires
 load-requires c κs = c .before .before .pre .list-most
 
 run-requires : tie.Need-run-requires
-run-requires c κs = runnable-of-loaded (c .before .before .before .args .price .0) (recordsOf (c .before .before .before .args .list .now)) (c .load .result) (c .before .before .before .pre .price-most) (c .load .ensures) (c .before .before .before .pre .whole-most)
+run-requires c κs = runnable-of-loaded (c .before .before .before .args .rates) (recordsOf (c .before .before .before .args .list .now)) (c .load .result) (c .before .before .before .pre .rates-fit) (c .load .ensures) (c .before .before .before .pre .whole-most)
 
 read-off-requires : tie.Need-read-off-requires
 read-off-requires c κs =
     let g = c .before .before .before .before .before .args in
     let rs = recordsOf (g .list .now) in
-    let same : endOf (c .before .run .result .list) ≡ passItems (g .price .0) rs =
-    end-of-ran (g .price .0) rs (c .before .before .load .result) (c .before .run .result) (c .before .before .load .ensures) (c .before .run .ensures) in
-    let choice = pass-holds (g .price .0) rs (c .before .before .before .before .before .pre .sized) (c .before .before .before .before .before .pre .apart) .choice in
+    let same : endOf (c .before .run .result .list) ≡ passItems (g .rates) rs =
+    end-of-ran (g .rates) rs (c .before .before .load .result) (c .before .run .result) (c .before .before .load .ensures) (c .before .run .ensures) in
+    let choice = pass-holds (g .rates) rs (c .before .before .before .before .before .pre .sized) (c .before .before .before .before .before .pre .apart) .choice in
     record { within = c .before .run .ensures .within; list-most = c .before .before .before .before .before .pre .list-most; room = c .before .before .before .before .before .pre .room; covered = rw same choice }
 
 same-length : tie.Need-same-length
@@ -37,11 +37,11 @@ returns c =
     let l = u .before in
     let g = c .before .before .before .before .before .before .before .before .args in
     let rs = recordsOf (g .list .now) in
-    let same : endOf (u .run .result .list) ≡ passItems (g .price .0) rs =
-    end-of-ran (g .price .0) rs (l .load .result) (u .run .result) (l .load .ensures) (u .run .ensures) in
+    let same : endOf (u .run .result .list) ≡ passItems (g .rates) rs =
+    end-of-ran (g .rates) rs (l .load .result) (u .run .result) (l .load .ensures) (u .run .ensures) in
     record {
-      looks-are = looks-of-ran (g .price .0) rs (l .load .result) (u .run .result) (l .load .ensures) (u .run .ensures);
-      few-looks = few-of-ran (g .price .0) rs (l .load .result) (u .run .result) (l .load .ensures) (u .run .ensures);
+      looks-are = looks-of-ran (g .rates) rs (l .load .result) (u .run .result) (l .load .ensures) (u .run .ensures);
+      few-looks = few-of-ran (g .rates) rs (l .load .result) (u .run .result) (l .load .ensures) (u .run .ensures);
       area = c .before .before .read-off .ensures ∙ ap (λ (x : List Item). over (bitBytes (choiceOf rs x)) (g .choice .now)) same;
     }
 

@@ -11,40 +11,40 @@ use Rattle.pass.proofs.run.Statement.{statement}
 use Rattle.pass.proofs.run.Tie as tie
 
 abbrev Inv-loop : tie.InvT-loop
-Inv-loop price list₀ looks₀ list looks = Round (price .0) (rightOf list₀) list looks
+Inv-loop rates list₀ looks₀ list looks = Round rates (rightOf list₀) list looks
 
 abbrev μ-loop : tie.MeasureT-loop
-μ-loop price list₀ looks₀ list looks = 2 * length (rightOf list₀) - looks
+μ-loop rates list₀ looks₀ list looks = 2 * length (rightOf list₀) - looks
 
 loop-holds : tie.Need-loop-holds Inv-loop μ-loop
-loop-holds c = round-start (c .args .price .0) (c .args .machine) (c .pre) (search needs) (search needs)
+loop-holds c = round-start (c .args .rates) (c .args .machine) (c .pre) (search needs) (search needs)
 
 look-requires : tie.Need-look-requires Inv-loop μ-loop
-look-requires c κs = ready-of-round (c .before .before .before .args .price .0) (rightOf (c .before .before .before .args .machine)) (c .before .before .loop .list) (c .before .before .loop .looks) (c .before .before .loop .inv) (omega arith) (c .before .before .before .pre .price-most)
+look-requires c κs = ready-of-round (c .before .before .before .args .rates) (rightOf (c .before .before .before .args .machine)) (c .before .before .loop .list) (c .before .before .loop .looks) (c .before .before .loop .inv) (omega arith) (c .before .before .before .pre .rates-fit)
 
 add-looks : tie.Need-add-looks Inv-loop μ-loop
 add-looks c =
     let g = c .before .before .before .before .before .before .args in
     let l = c .before .before .before .before .before .loop in
-    omega (arith, c .before .before .look .ensures .one, l .inv .few, looks-left (g .price .0) (rightOf (g .machine)) (l .list) (l .looks) (l .inv) (omega arith))
+    omega (arith, c .before .before .look .ensures .one, l .inv .few, looks-left (g .rates) (rightOf (g .machine)) (l .list) (l .looks) (l .inv) (omega arith))
 
 loop-less : tie.Need-loop-less Inv-loop μ-loop
 loop-less c =
     let g = c .before .before .before .before .before .before .args in
     let l = c .before .before .before .before .before .loop in
-    omega (arith, c .before .before .look .ensures .one, looks-left (g .price .0) (rightOf (g .machine)) (l .list) (l .looks) (l .inv) (omega arith))
+    omega (arith, c .before .before .look .ensures .one, looks-left (g .rates) (rightOf (g .machine)) (l .list) (l .looks) (l .inv) (omega arith))
 
 loop-again : tie.Need-loop-again Inv-loop μ-loop
 loop-again c =
     let g = c .before .before .before .before .before .before .args in
     let l = c .before .before .before .before .before .loop in
-    round-next (g .price .0) (rightOf (g .machine)) (l .list) (l .looks) (l .inv) (omega arith) (c .before .before .look .result) (c .before .before .look .ensures) (search needs) (search needs)
+    round-next (g .rates) (rightOf (g .machine)) (l .list) (l .looks) (l .inv) (omega arith) (c .before .before .look .result) (c .before .before .look .ensures) (search needs) (search needs)
 
 returns : tie.Need-returns Inv-loop μ-loop
 returns c =
     let g = c .before .before .before .args in
     let l = c .before .before .loop in
-    round-end (g .price .0) (rightOf (g .machine)) (l .list) (l .looks) (l .inv) (omega arith) _ refl refl
+    round-end (g .rates) (rightOf (g .machine)) (l .list) (l .looks) (l .inv) (omega arith) _ refl refl
 
 pub run-spec : {M : Type 1} → statement M
 run-spec =

@@ -8,6 +8,7 @@ use lib.ListN.{length, take, drop, set, take-append-drop}
 use Rattle.format.specs.declared.Record.{Record}
 use Rattle.format.specs.Record.{rowAt, recordOf}
 use Rattle.format.proofs.Rows.{recordsFrom}
+use Rattle.price.specs.declared.Rates.{Rates}
 use Rattle.choice.specs.Choice.{keep, store}
 use Rattle.sweep.specs.Sweep.{hintBytes, hintsOf, bestOf, turned}
 use Rattle.sweep.proofs.Sweeping.{records-end, back-turn, set-back}
@@ -15,20 +16,20 @@ use borrow.Author.Needs.{needs}
 use Rattle.sweep.proofs.backwards.Statement.{statement}
 use Rattle.sweep.proofs.backwards.Tie as tie
 
-record Inv (price : ℕ) (list : List ℕ) (n : ℕ) (choice₀ choice : List ℕ) (i kept stored : ℕ) : Type 0 where
+record Inv (rates : Rates) (list : List ℕ) (n : ℕ) (choice₀ choice : List ℕ) (i kept stored : ℕ) : Type 0 where
   in-n : i ≤ n
   same : length choice ≡ length choice₀
-  kept-most : kept + 4294967296 * i ≤ 16711425 + 4294967296 * n
-  stored-most : stored + 4294967296 * i ≤ 4294967296 * n
-  kept-is : kept ≡ bestOf price (recordsFrom list n i) keep
-  stored-is : stored ≡ bestOf price (recordsFrom list n i) store
-  area : choice ≡ take i choice₀ ++ (hintBytes (hintsOf price (recordsFrom list n i)) ++ drop n choice₀)
+  kept-most : kept + 1099511627776 * i ≤ 16711425 + 1099511627776 * n
+  stored-most : stored + 1099511627776 * i ≤ 1099511627776 * n
+  kept-is : kept ≡ bestOf rates (recordsFrom list n i) keep
+  stored-is : stored ≡ bestOf rates (recordsFrom list n i) store
+  area : choice ≡ take i choice₀ ++ (hintBytes (hintsOf rates (recordsFrom list n i)) ++ drop n choice₀)
 
 abbrev Inv-loop : tie.InvT-loop
-Inv-loop price list n choice₀ i₀ kept₀ stored₀ choice i kept stored = Inv (price .0) list n choice₀ choice i (kept .0) (stored .0)
+Inv-loop rates list n choice₀ i₀ kept₀ stored₀ choice i kept stored = Inv rates list n choice₀ choice i (kept .0) (stored .0)
 
 abbrev μ-loop : tie.MeasureT-loop
-μ-loop price list n choice₀ i₀ kept₀ stored₀ choice i kept stored = i
+μ-loop rates list n choice₀ i₀ kept₀ stored₀ choice i kept stored = i
 
 loop-holds : tie.Need-loop-holds Inv-loop μ-loop
 loop-holds c =
@@ -67,7 +68,7 @@ loop-again c =
     let g = w .before .before .before .before .before .before .before .args in
     let l = w .before .before .before .before .loop in
     let t = w .weigh in
-    let p = g .price .0 in
+    let p = g .rates in
     let some : 0 < l .i = w .before .before .before .loop-test .taken in
     let r : w .before .record-of .result ≡ recordOf (rowAt (g .list .now) (l .i - 1)) = w .before .record-of .ensures ∙ ap recordOf (w .before .before .row-at .ensures) in
     let b = back-turn p (g .list .now) (g .n) (l .i) (l .kept .0) (l .stored .0) some (l .inv .in-n) (l .inv .kept-is) (l .inv .stored-is) (t .result)
@@ -75,7 +76,7 @@ loop-again c =
     record {
       in-n = search needs;
       same = search needs;
-      kept-most = omega (arith, t .ensures .kept-most, l .inv .stored-most, some, w .before .before .before .before .before .before .before .pre .price-most);
+      kept-most = omega (arith, t .ensures .kept-most, l .inv .stored-most, some, w .before .before .before .before .before .before .before .pre .rates-fit .fresh-most);
       stored-most = omega (arith, t .ensures .stored-most, l .inv .stored-most, some);
       kept-is = b .0;
       stored-is = b .1;
@@ -94,8 +95,8 @@ returns c =
     let l = c .before .loop in
     let z : l .i ≡ 0 = omega arith in
     record {
-      least-cost = l .inv .kept-is ∙ ap (λ (j : ℕ). bestOf (g .price .0) (recordsFrom (g .list .now) (g .n) j) keep) z;
-      area = l .inv .area ∙ ap (λ (j : ℕ). take j (g .choice .now) ++ (hintBytes (hintsOf (g .price .0) (recordsFrom (g .list .now) (g .n) j)) ++ drop (g .n) (g .choice .now))) z;
+      least-cost = l .inv .kept-is ∙ ap (λ (j : ℕ). bestOf (g .rates) (recordsFrom (g .list .now) (g .n) j) keep) z;
+      area = l .inv .area ∙ ap (λ (j : ℕ). take j (g .choice .now) ++ (hintBytes (hintsOf (g .rates) (recordsFrom (g .list .now) (g .n) j)) ++ drop (g .n) (g .choice .now))) z;
     }
 
 pub backwards-spec : {M : Type 1} → statement M

@@ -16,7 +16,7 @@ same-length c = search needs
 returns : tie.Need-returns
 returns c =
     let g = c .before .before .before .before .before .before .before .before .before .before .args in
-    least-in (g .price .0) (g .list .now) (g .choice .now) _ _ (c .before .before .before .before .before .before .backwards .result .0) (c .before .before .before .before .before .before .backwards .ensures) (c .before .before .settle .ensures)
+    least-in (g .rates) (g .list .now) (g .choice .now) _ _ (c .before .before .before .before .before .before .backwards .result .0) (c .before .before .before .before .before .before .backwards .ensures) (c .before .before .settle .ensures)
 
 pub least-choice-spec : {M : Type 1} → statement M
 least-choice-spec = tie.close (tie.spec backwards-requires settle-requires same-length returns)

@@ -1,7 +1,7 @@
 -- `sweep::weigh` meets its contract: the record's turn, by its kind and by the two tests. Assumes nothing.
+use Prim.Native.Nat.{ℕ, _*_}
 use native.Mathlib.Omega.{arith}
-use mathlib.Core.Path.{_≡_, _∙_, ap}
-use Rattle.price.proofs.Bounds.{as-number}
+use mathlib.Core.Path.{_∙_, ap}
 use Rattle.choice.specs.Choice.{freedom}
 use Rattle.sweep.proofs.Sweeping.{turned-only, turned-keep, turned-join, turned-store}
 use borrow.Author.Needs.{needs}
@@ -11,20 +11,20 @@ use Rattle.sweep.proofs.weigh.Tie as tie
 size-of-requires : tie.Need-size-of-requires
 size-of-requires c κs = search needs
 
-disk-requires : tie.Need-disk-requires
-disk-requires c κs = search needs
+storing-requires : tie.Need-storing-requires
+storing-requires c κs = search needs
 
 add-t10 : tie.Need-add-t10
 add-t10 c = search needs
 
 add-t10-2 : tie.Need-add-t10-2
-add-t10-2 c = omega (arith, as-number (c .before .before .before .before .disk .ensures))
+add-t10-2 c = search needs
 
 add-t11 : tie.Need-add-t11
-add-t11 c = omega (arith, as-number (c .before .before .before .before .before .disk .ensures))
+add-t11 c = search needs
 
 add-t10-3 : tie.Need-add-t10-3
-add-t10-3 c = omega (arith, as-number (c .before .before .before .before .before .before .before .disk .ensures))
+add-t10-3 c = search needs
 
 enum-told : tie.Need-enum-told
 enum-told c = search needs
@@ -33,11 +33,12 @@ returns : tie.Need-returns
 returns c =
     let d = c .before .before .before .before .before .before .before .before .before in
     let g = d .before .before .args in
-    let s = as-number (d .disk .ensures) in
+    let e = d .storing .ensures .is ∙ ap (λ (n : ℕ). g .rates .byte .0 * n) (d .before .size-of .ensures) in
+    let most = d .storing .ensures .most in
     record {
-      is = turned-only (g .price .0) (g .item) (g .kept .0) (g .stored .0) (d .disk .result .0) (s ∙ d .before .size-of .ensures) (ap freedom (c .enum-told .given .1));
-      kept-most = omega (arith, s);
-      stored-most = omega (arith, s);
+      is = turned-only (g .rates) (g .item) (g .kept .0) (g .stored .0) (d .storing .result .0) e (ap freedom (c .enum-told .given .1));
+      kept-most = omega arith;
+      stored-most = omega arith;
     }
 
 enum-told-2 : tie.Need-enum-told-2
@@ -50,33 +51,36 @@ returns-2 : tie.Need-returns-2
 returns-2 c =
     let d = c .before .before .before .before .before .before .before .before .before .before .before .before .before .before .before .before in
     let g = d .before .before .args in
-    let s = as-number (d .disk .ensures) in
+    let e = d .storing .ensures .is ∙ ap (λ (n : ℕ). g .rates .byte .0 * n) (d .before .size-of .ensures) in
+    let most = d .storing .ensures .most in
     record {
-      is = turned-keep (g .price .0) (g .item) (g .kept .0) (g .stored .0) (d .disk .result .0) (s ∙ d .before .size-of .ensures) (ap freedom (c .before .before .before .before .before .before .before .enum-told2 .given .1)) (omega arith) (omega arith);
-      kept-most = omega (arith, s);
-      stored-most = omega (arith, s);
+      is = turned-keep (g .rates) (g .item) (g .kept .0) (g .stored .0) (d .storing .result .0) e (ap freedom (c .before .before .before .before .before .before .before .enum-told2 .given .1)) (omega arith) (omega arith);
+      kept-most = omega arith;
+      stored-most = omega arith;
     }
 
 returns-3 : tie.Need-returns-3
 returns-3 c =
     let d = c .before .before .before .before .before .before .before .before .before .before .before .before .before .before .before .before in
     let g = d .before .before .args in
-    let s = as-number (d .disk .ensures) in
+    let e = d .storing .ensures .is ∙ ap (λ (n : ℕ). g .rates .byte .0 * n) (d .before .size-of .ensures) in
+    let most = d .storing .ensures .most in
     record {
-      is = turned-join (g .price .0) (g .item) (g .kept .0) (g .stored .0) (d .disk .result .0) (s ∙ d .before .size-of .ensures) (ap freedom (c .before .before .before .before .before .before .before .enum-told2 .given .1)) (omega arith) (omega arith);
-      kept-most = omega (arith, s);
-      stored-most = omega (arith, s);
+      is = turned-join (g .rates) (g .item) (g .kept .0) (g .stored .0) (d .storing .result .0) e (ap freedom (c .before .before .before .before .before .before .before .enum-told2 .given .1)) (omega arith) (omega arith);
+      kept-most = omega arith;
+      stored-most = omega arith;
     }
 
 returns-4 : tie.Need-returns-4
 returns-4 c =
     let d = c .before .before .before .before .before .before .before .before .before .before .before .before in
     let g = d .before .before .args in
-    let s = as-number (d .disk .ensures) in
+    let e = d .storing .ensures .is ∙ ap (λ (n : ℕ). g .rates .byte .0 * n) (d .before .size-of .ensures) in
+    let most = d .storing .ensures .most in
     record {
-      is = turned-store (g .price .0) (g .item) (g .kept .0) (g .stored .0) (d .disk .result .0) (s ∙ d .before .size-of .ensures) (ap freedom (c .before .before .before .enum-told2 .given .1)) (omega arith);
-      kept-most = omega (arith, s);
-      stored-most = omega (arith, s);
+      is = turned-store (g .rates) (g .item) (g .kept .0) (g .stored .0) (d .storing .result .0) e (ap freedom (c .before .before .before .enum-told2 .given .1)) (omega arith);
+      kept-most = omega arith;
+      stored-most = omega arith;
     }
 
 pub weigh-spec : {M : Type 1} → statement M
@@ -84,7 +88,7 @@ weigh-spec =
     tie.close
     (tie.spec
     size-of-requires
-    disk-requires
+    storing-requires
     add-t10
     add-t10-2
     add-t11
