@@ -14,6 +14,7 @@ use Rattle.format.specs.declared.Record.the-variants.{New, Match}
 use Rattle.format.specs.Meaning.{stored}
 use Rattle.format.proofs.Rulings.{both-of-and}
 use Rattle.price.specs.declared.DiskBytes.{DiskBytes}
+use Rattle.price.specs.declared.Rates.{Rates}
 use Rattle.price.specs.declared.Priced.the-variants.{At, OutOfRange}
 use Rattle.price.specs.Price.{priceFits, priceOf, priced, news, matches, cost, ratesAt, RatesFit}
 
@@ -67,3 +68,6 @@ cost-at p l = rw (← entries l) (omega arith)
 
 pub rates-fit-at : (p : ℕ) → p ≤ 16711425 → RatesFit (ratesAt p)
 rates-fit-at p h = record { fresh-most = h; kept-most = h; byte-most = omega arith }
+
+pub rates-fit-of : (r : Rates) (p : ℕ) → r ≡ ratesAt p → p ≤ 16711425 → RatesFit r
+rates-fit-of r p e h = rw e (rates-fit-at p h)
