@@ -1,4 +1,4 @@
--- The price of an entry and the cost of a list fit 64 bits; what a price in range keeps to.
+-- What a price in range keeps to, its rates and the cost of a list at them.
 -- Assumes nothing.
 use Prim.Native.Nat.{ℕ, _+_, _*_, _≤_}
 use native.Mathlib.Omega.{arith}
@@ -13,48 +13,47 @@ use Rattle.format.specs.declared.Record.{Record}
 use Rattle.format.specs.declared.Record.the-variants.{New, Match}
 use Rattle.format.specs.Meaning.{stored}
 use Rattle.format.proofs.Rulings.{both-of-and}
-use Rattle.price.specs.declared.DiskBytes.{DiskBytes}
+use Rattle.price.specs.declared.Price.{Price}
 use Rattle.price.specs.declared.Rates.{Rates}
 use Rattle.price.specs.declared.Priced.the-variants.{At, OutOfRange}
-use Rattle.price.specs.Price.{priceFits, priceOf, priced, news, matches, cost, ratesAt, RatesFit}
+use Rattle.price.specs.Price.{priceFits, ratesAt, ratesOf, priced, news, matches, cost, RatesFit}
 
 pub product-most : (a b m n : ℕ) → a ≤ m → b ≤ n → a * b ≤ m * n
 product-most a b m n h k = mul-le-mul {n₁ = a} {m₁ = b} {n₂ = m} {m₂ = n} h k
 
-pub record InRange (e f : ℕ) : Type 0 where
-  pub e-least : 1 ≤ e
-  pub e-most : e ≤ 255
-  pub f-least : 1 ≤ f
-  pub f-most : f ≤ 65535
+pub record InRange (k : Price) : Type 0 where
+  pub e-least : 1 ≤ k .e
+  pub e-most : k .e ≤ 255
+  pub f-least : 1 ≤ k .f
+  pub f-most : k .f ≤ 65535
 
-pub range-of-fits : (e f : ℕ) → priceFits e f ≡ true → InRange e f
-range-of-fits e f h =
-    let a = both-of-and (leb 1 e && leb e 255 && leb 1 f) (leb f 65535) h in
-    let b = both-of-and (leb 1 e && leb e 255) (leb 1 f) (a .0) in
-    let c = both-of-and (leb 1 e) (leb e 255) (b .0) in
-    record { e-least = leb-true 1 e (c .0); e-most = leb-true e 255 (c .1); f-least = leb-true 1 f (b .1); f-most = leb-true f 65535 (a .1) }
+pub range-of-fits : (k : Price) → priceFits k ≡ true → InRange k
+range-of-fits k h =
+    let a = both-of-and (leb 1 (k .e) && leb (k .e) 255 && leb 1 (k .f)) (leb (k .f) 65535) h in
+    let b = both-of-and (leb 1 (k .e) && leb (k .e) 255) (leb 1 (k .f)) (a .0) in
+    let c = both-of-and (leb 1 (k .e)) (leb (k .e) 255) (b .0) in
+    record { e-least = leb-true 1 (k .e) (c .0); e-most = leb-true (k .e) 255 (c .1); f-least = leb-true 1 (k .f) (b .1); f-most = leb-true (k .f) 65535 (a .1) }
 
-pub price-most : (e f : ℕ) → priceFits e f ≡ true → priceOf e f ≤ 16711425
-price-most e f h = let r = range-of-fits e f h in product-most f e 65535 255 (r .f-most) (r .e-most)
+pub rates-fit : (k : Price) → priceFits k ≡ true → RatesFit (ratesOf k)
+rates-fit k h =
+    let r = range-of-fits k h in
+    let p = product-most (k .f) (k .e) 65535 255 (r .f-most) (r .e-most) in
+    record { fresh-most = p; kept-most = p; byte-most = omega arith }
 
--- the number of some disk bytes
-pub as-number : {d : DiskBytes} {n : ℕ} → d ≡ record { 0 = n } → d .0 ≡ n
-as-number e = ap (λ (x : DiskBytes). x .0) e
-
--- what a priced entry tells
-pub fits-of-at : (e f : ℕ) (d : DiskBytes) → priced e f ≡ At d → (priceFits e f ≡ true) × (d .0 ≡ priceOf e f)
-fits-of-at e f d h = go (priceFits e f) refl h
+-- what the rates of a price tell
+pub fits-of-at : (k : Price) (r : Rates) → priced k ≡ At r → (priceFits k ≡ true) × (r ≡ ratesOf k)
+fits-of-at k r h = go (priceFits k) refl h
   where
-    go : (t : Bool) → priceFits e f ≡ t → cond t (At (record { 0 = priceOf e f })) OutOfRange ≡ At d → (priceFits e f ≡ true) × (d .0 ≡ priceOf e f)
-    go true k l = (k, let m : d ≡ record { 0 = priceOf e f } = cc in as-number m)
-    go false k l = absurd (let z : _≡_ {A = ℕ} 0 1 = cc in omega arith)
+    go : (t : Bool) → priceFits k ≡ t → cond t (At (ratesOf k)) OutOfRange ≡ At r → (priceFits k ≡ true) × (r ≡ ratesOf k)
+    go true f l = (f, let m : r ≡ ratesOf k = cc in m)
+    go false f l = absurd (let z : _≡_ {A = ℕ} 0 1 = cc in omega arith)
 
-pub unfit-of-range : (e f : ℕ) → priced e f ≡ OutOfRange → priceFits e f ≡ false
-unfit-of-range e f h = go (priceFits e f) refl h
+pub unfit-of-range : (k : Price) → priced k ≡ OutOfRange → priceFits k ≡ false
+unfit-of-range k h = go (priceFits k) refl h
   where
-    go : (t : Bool) → priceFits e f ≡ t → cond t (At (record { 0 = priceOf e f })) OutOfRange ≡ OutOfRange → priceFits e f ≡ false
-    go true k l = absurd (let z : _≡_ {A = ℕ} 0 1 = cc in omega arith)
-    go false k l = k
+    go : (t : Bool) → priceFits k ≡ t → cond t (At (ratesOf k)) OutOfRange ≡ OutOfRange → priceFits k ≡ false
+    go true f l = absurd (let z : _≡_ {A = ℕ} 0 1 = cc in omega arith)
+    go false f l = f
 
 -- ---- the rates at the price p of an entry
 
@@ -66,8 +65,6 @@ entries (Match s a ∷ l) = omega (arith, entries l)
 pub cost-at : (p : ℕ) (l : List Record) → cost (ratesAt p) l ≡ p * length l + stored l
 cost-at p l = rw (← entries l) (omega arith)
 
-pub rates-fit-at : (p : ℕ) → p ≤ 16711425 → RatesFit (ratesAt p)
-rates-fit-at p h = record { fresh-most = h; kept-most = h; byte-most = omega arith }
-
-pub rates-fit-of : (r : Rates) (p : ℕ) → r ≡ ratesAt p → p ≤ 16711425 → RatesFit r
-rates-fit-of r p e h = rw e (rates-fit-at p h)
+pub news-cons : (r : Record) (l : List Record) → news (r ∷ l) ≡ news (r ∷ []) + news l
+news-cons (New s) l = omega arith
+news-cons (Match s a) l = omega arith

@@ -5,24 +5,37 @@ use mathlib.Core.Path.{_≡_}
 use mathlib.Core.Bool.{Bool, _&&_, cond}
 use mathlib.Core.List.{List, [], _∷_}
 use lib.Dec.{leb}
+use lib.ListN.{length}
 use Rattle.format.specs.declared.Record.{Record}
 use Rattle.format.specs.declared.Record.the-variants.{New, Match}
+use Rattle.format.specs.Limits.{listMost}
+use Rattle.format.specs.Record.{recordsOf}
 use Rattle.format.specs.Meaning.{stored}
 use Rattle.price.specs.declared.DiskBytes.{DiskBytes}
+use Rattle.price.specs.declared.Price.{Price}
 use Rattle.price.specs.declared.Rates.{Rates}
 use Rattle.price.specs.declared.Priced.{Priced}
 use Rattle.price.specs.declared.Priced.the-variants.{At, OutOfRange}
 
 -- E is 1 to 255, F is 1 to 65,535
-abbrev pub priceFits : ℕ → ℕ → Bool
-priceFits e f = leb 1 e && leb e 255 && leb 1 f && leb f 65535
+abbrev pub priceFits : Price → Bool
+priceFits k = leb 1 (k .e) && leb (k .e) 255 && leb 1 (k .f) && leb (k .f) 65535
 
 -- P, in disk bytes: E index bytes for an entry, F disk bytes for each
-abbrev pub priceOf : ℕ → ℕ → ℕ
-priceOf e f = f * e
+abbrev pub entryPrice : Price → ℕ
+entryPrice k = k .f * k .e
 
-abbrev pub priced : ℕ → ℕ → Priced
-priced e f = cond (priceFits e f) (At (record { 0 = priceOf e f })) OutOfRange
+-- an entry costs p, new or match, and a stored byte costs 1
+abbrev pub ratesAt : ℕ → Rates
+ratesAt p = record { fresh = record { 0 = p }; kept = record { 0 = p }; byte = record { 0 = 1 } }
+
+-- document 01's rates: P, P and 1
+abbrev pub ratesOf : Price → Rates
+ratesOf k = ratesAt (entryPrice k)
+
+-- the rates, or number 1
+abbrev pub priced : Price → Priced
+priced k = cond (priceFits k) (At (ratesOf k)) OutOfRange
 
 -- ---- the cost of a list
 
@@ -37,13 +50,9 @@ matches [] = 0
 matches (New s ∷ l) = matches l
 matches (Match s a ∷ l) = suc (matches l)
 
--- what the list costs at the rates r, in disk bytes
+-- what a list costs at the rates r, in disk bytes; at document 01's rates, P × entries + stored bytes: formula (1) of source document 001 (`cost-at`)
 abbrev pub cost : Rates → List Record → ℕ
 cost r l = r .fresh .0 * news l + r .kept .0 * matches l + r .byte .0 * stored l
-
--- the rates at the price p of an entry: with them the cost is formula (1) of source document 001, p × entries + stored bytes (`cost-at`)
-abbrev pub ratesAt : ℕ → Rates
-ratesAt p = record { fresh = record { 0 = p }; kept = record { 0 = p }; byte = record { 0 = 1 } }
 
 -- rates at which the cost of 4,096 records fits 64 bits
 pub record RatesFit (r : Rates) : Type 0 where
@@ -55,3 +64,14 @@ pub record RatesFit (r : Rates) : Type 0 where
 pub record Storing (r : Rates) (n : ℕ) (d : DiskBytes) : Type 0 where
   pub is : d .0 ≡ r .byte .0 * n
   pub most : d .0 < 1099511627776
+
+-- a count of the new entries of a list
+pub record Tallied (list : List ℕ) (r : ℕ) : Type 0 where
+  pub is : r ≡ news (recordsOf list)
+  pub most : r ≤ length (recordsOf list)
+
+-- what pricing a list asks: its length within the limit, and its stored bytes
+pub record Countable (r : Rates) (list : List ℕ) (s : ℕ) : Type 0 where
+  pub rates-fit : RatesFit r
+  pub list-most : length list ≤ listMost
+  pub stored-is : s ≡ stored (recordsOf list)

@@ -1,15 +1,25 @@
-// The price of an index entry, and the cost of a list.
+// The price, the rates that it comes to, and the cost of a list.
 //
 // Index bytes and disk bytes are two units: `worth` alone brings them together.
 ghost use mathlib.Core.Path.{_≡_};
-ghost use Prim.Native.Nat.{_+_, _*_, _≤_, _<_};
-ghost use Rattle.price.specs.Price.{priced, ratesAt, RatesFit, Storing};
+ghost use Prim.Native.Nat.{_*_, _≤_, _<_};
+ghost use mathlib.Core.List.{[], _∷_};
+ghost use lib.ListN.{length};
+ghost use Rattle.format.specs.Record.{recordsOf};
+ghost use Rattle.price.specs.Price.{priceFits, priced, news, cost, RatesFit, Storing, Tallied, Countable};
+use format::Record;
 
 // Bytes of the index.
 pub struct IndexBytes(pub u64);
 
 // Bytes of disk, the unit of cost.
 pub struct DiskBytes(pub u64);
+
+// E, the index bytes of an entry, and F, the disk bytes that one of them is worth.
+pub struct Price {
+    pub e: u32,
+    pub f: u32,
+}
 
 // What a list costs by its parts: a new entry, a kept match, and a stored byte.
 pub struct Rates {
@@ -18,9 +28,9 @@ pub struct Rates {
     pub byte: DiskBytes,
 }
 
-// The price of an entry, where E and F are in their ranges.
+// The rates of a price, where E and F are in their ranges.
 pub enum Priced {
-    At(DiskBytes),
+    At(Rates),
     OutOfRange,
 }
 
@@ -32,41 +42,35 @@ pub fn worth(index: IndexBytes, factor: u32) -> DiskBytes
     DiskBytes((factor as u64) * index.0)
 }
 
-// P, the price of an entry: check 1.
-pub fn price_of(e: u32, f: u32) -> Priced
-    ensures { λ r. ⌜ r ≡ priced e f ⌝ }
+// Check 1: whether E and F are in their ranges.
+fn in_range(price: Price) -> bool
+    ensures { λ r. ⌜ r ≡ priceFits price ⌝ }
 {
-    if e < 1 {
-        return Priced::OutOfRange;
+    if price.e < 1 {
+        return false;
     }
-    if 255 < e {
-        return Priced::OutOfRange;
+    if 255 < price.e {
+        return false;
     }
-    if f < 1 {
-        return Priced::OutOfRange;
+    if price.f < 1 {
+        return false;
     }
-    if 65535 < f {
-        return Priced::OutOfRange;
-    }
-    Priced::At(worth(IndexBytes(e as u64), f))
+    price.f <= 65535
 }
 
-// So many bytes, as disk bytes.
-pub fn disk(bytes: u32) -> DiskBytes
-    ensures { λ r. ⌜ r ≡ record { 0 = bytes } ⌝ }
+// The rates of a price in range: an entry costs P, new or match, and a stored byte costs 1.
+pub fn rates_of(price: Price) -> Priced
+    ensures { λ r. ⌜ r ≡ priced price ⌝ }
 {
-    DiskBytes(bytes as u64)
-}
-
-// The rates where each entry costs p, new or match, and a stored byte 1.
-pub fn rates_of(p: DiskBytes) -> Rates
-    ensures { λ r. ⌜ r ≡ ratesAt (p .0) ⌝ }
-{
-    Rates {
+    if !in_range(price) {
+        return Priced::OutOfRange;
+    }
+    let p = worth(IndexBytes(price.e as u64), price.f);
+    Priced::At(Rates {
         fresh: p,
         kept: p,
         byte: DiskBytes(1),
-    }
+    })
 }
 
 // What so many stored bytes cost.
@@ -77,10 +81,38 @@ pub fn storing(rates: Rates, bytes: u32) -> DiskBytes
     DiskBytes(rates.byte.0 * (bytes as u64))
 }
 
-// The cost of so many entries and stored bytes, at the price p of an entry.
-pub fn cost_of(p: DiskBytes, entries: u32, stored: DiskBytes) -> DiskBytes
-    requires { ⌜ (p .0 ≤ 16711425) × (entries ≤ 4096) × (stored .0 < 4294967296) ⌝ }
-    ensures { λ r. ⌜ r .0 ≡ p .0 * entries + stored .0 ⌝ }
+// 1 for a new record, 0 for a match.
+fn one_if_new(item: Record) -> u64
+    ensures { λ r. ⌜ (r ≡ news (item ∷ [])) × (r ≤ 1) ⌝ }
 {
-    DiskBytes(p.0 * (entries as u64) + stored.0)
+    match item {
+        Record::New(_) => 1,
+        Record::Match(_, _) => 0,
+    }
+}
+
+// The new entries of a list.
+fn tally(list: &[u8]) -> u64
+    requires { ⌜ length (now list) ≤ 49152 ⌝ }
+    ensures { λ r. ⌜ Tallied (now (list .entry)) r ⌝ }
+{
+    let n = list.len() / 12;
+    let mut count: u64 = 0;
+    let mut i = 0;
+    while i < n {
+        count += one_if_new(format::record_of(format::row_at(list, i)));
+        i += 1;
+    }
+    count
+}
+
+// The cost of a list that has so many stored bytes.
+pub fn cost_of(rates: Rates, list: &[u8], stored: u32) -> DiskBytes
+    requires { ⌜ Countable rates (now list) stored ⌝ }
+    ensures { λ r. ⌜ r .0 ≡ cost rates (recordsOf (now (list .entry))) ⌝ }
+{
+    let fresh = tally(list);
+    let kept = ((list.len() / 12) as u64) - fresh;
+    let bytes = storing(rates, stored);
+    DiskBytes(rates.fresh.0 * fresh + rates.kept.0 * kept + bytes.0)
 }
