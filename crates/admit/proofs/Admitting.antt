@@ -8,7 +8,7 @@ use mathlib.Core.List.{List}
 use lib.Dec.{eqb, leb}
 use lib.ListN.{length}
 use borrow.Author.Tests.{leb-true, le-leb, eq-eqb, ne-eqb, eqb-true}
-use Rattle.format.specs.declared.Fault.the-variants.{Price, TooLong, ListLength, AreaTooShort, Sizes}
+use Rattle.format.specs.declared.Fault.the-variants as fault
 use Rattle.format.specs.declared.Record.{Record}
 use Rattle.format.specs.declared.Refusal.{Refusal}
 use Rattle.format.specs.declared.Ruling.{Ruling}
@@ -27,19 +27,20 @@ use Rattle.walk.specs.Checks.{checks, walkRuling, front}
 use Rattle.walk.proofs.Accepted.{each-of-fine, sized-of-four, apart-of-five, agrees-of-eight}
 use Rattle.walk.proofs.Written.{walk-encode}
 use Rattle.area.specs.Area.{Areas}
+use Rattle.price.specs.declared.Price.{Price}
 use Rattle.price.specs.Price.{priceFits}
 use Rattle.admit.specs.Admit.{lengthsFit, areasFit, admitRuling, callRuling, partitionRuling, findings, LongEnough}
 
 module _ (list v st : List ℕ) (c a b : ℕ) where
-  pub admit-lengths : lengthsFit v st ≡ false → admitRuling list v st c a b ≡ Stop (refuse TooLong 0)
+  pub admit-lengths : lengthsFit v st ≡ false → admitRuling list v st c a b ≡ Stop (refuse fault.TooLong 0)
   admit-lengths k = rw k
 
   module _ (k : lengthsFit v st ≡ true) where
-    pub admit-list : listFits list ≡ false → admitRuling list v st c a b ≡ Stop (refuse ListLength 0)
+    pub admit-list : listFits list ≡ false → admitRuling list v st c a b ≡ Stop (refuse fault.ListLength 0)
     admit-list l = rw (k, l)
 
     module _ (l : listFits list ≡ true) where
-      pub admit-areas : areasFit list v c a b ≡ false → admitRuling list v st c a b ≡ Stop (refuse AreaTooShort 0)
+      pub admit-areas : areasFit list v c a b ≡ false → admitRuling list v st c a b ≡ Stop (refuse fault.AreaTooShort 0)
       admit-areas m = rw (k, l, m)
 
       module _ (m : areasFit list v c a b ≡ true) where
@@ -47,7 +48,7 @@ module _ (list v st : List ℕ) (c a b : ℕ) where
         admit-walk x w = rw (k, l, m, w)
 
         module _ (w : walkRuling (checks scope.Version v st) list ≡ Fine) where
-          pub admit-short : (whole (recordsOf list) ≡ length v → ⊥) → admitRuling list v st c a b ≡ Stop (refuse Sizes (length (recordsOf list)))
+          pub admit-short : (whole (recordsOf list) ≡ length v → ⊥) → admitRuling list v st c a b ≡ Stop (refuse fault.Sizes (length (recordsOf list)))
           admit-short n = rw (k, l, m, w, ne-eqb (whole (recordsOf list)) (length v) n)
 
           pub admit-fine : whole (recordsOf list) ≡ length v → admitRuling list v st c a b ≡ Fine
@@ -89,20 +90,20 @@ record Passed (list v st : List ℕ) (c a b : ℕ) : Type 0 where
 
 passed-of-fine : (list v st : List ℕ) (c a b : ℕ) → admitRuling list v st c a b ≡ Fine → Passed list v st c a b
 passed-of-fine list v st c a b h =
-    let last : Ruling = need (eqb (whole (recordsOf list)) (length v)) Sizes (length (recordsOf list)) in
+    let last : Ruling = need (eqb (whole (recordsOf list)) (length v)) fault.Sizes (length (recordsOf list)) in
     let walk : Ruling = walkRuling (checks scope.Version v st) list in
-    let nine : Ruling = need (areasFit list v c a b) AreaTooShort 0 in
-    let three : Ruling = need (listFits list) ListLength 0 in
-    let h₂ = fine-of-then (need (lengthsFit v st) TooLong 0) (three then nine then walk then last) h in
+    let nine : Ruling = need (areasFit list v c a b) fault.AreaTooShort 0 in
+    let three : Ruling = need (listFits list) fault.ListLength 0 in
+    let h₂ = fine-of-then (need (lengthsFit v st) fault.TooLong 0) (three then nine then walk then last) h in
     let h₃ = fine-of-then three (nine then walk then last) (h₂ .1) in
     let h₄ = fine-of-then nine (walk then last) (h₃ .1) in
     let h₅ = fine-of-then walk last (h₄ .1) in
     record {
-      lengths = true-of-need (lengthsFit v st) TooLong 0 (h₂ .0);
-      counts = true-of-need (listFits list) ListLength 0 (h₃ .0);
-      areas = true-of-need (areasFit list v c a b) AreaTooShort 0 (h₄ .0);
+      lengths = true-of-need (lengthsFit v st) fault.TooLong 0 (h₂ .0);
+      counts = true-of-need (listFits list) fault.ListLength 0 (h₃ .0);
+      areas = true-of-need (areasFit list v c a b) fault.AreaTooShort 0 (h₄ .0);
       walked = h₅ .0;
-      ends = eqb-true (whole (recordsOf list)) (length v) (true-of-need (eqb (whole (recordsOf list)) (length v)) Sizes (length (recordsOf list)) (h₅ .1));
+      ends = eqb-true (whole (recordsOf list)) (length v) (true-of-need (eqb (whole (recordsOf list)) (length v)) fault.Sizes (length (recordsOf list)) (h₅ .1));
     }
 
 pub sound-of-fine : (list v st : List ℕ) (c a b : ℕ) → admitRuling list v st c a b ≡ Fine → Sound list v st c a b
@@ -128,14 +129,14 @@ sound-of-fine list v st c a b h =
     }
 
 -- the price fits, and the inputs are admitted
-pub admitted-of-fine : (e f : ℕ) (list v st : List ℕ) (c a b : ℕ) → callRuling e f list v st c a b ≡ Fine → (priceFits e f ≡ true) × (admitRuling list v st c a b ≡ Fine)
-admitted-of-fine e f list v st c a b h =
-    let k = fine-of-then (need (priceFits e f) Price 0) (admitRuling list v st c a b) h in
-    (true-of-need (priceFits e f) Price 0 (k .0), k .1)
+pub admitted-of-fine : (price : Price) (list v st : List ℕ) (c a b : ℕ) → callRuling price list v st c a b ≡ Fine → (priceFits price ≡ true) × (admitRuling list v st c a b ≡ Fine)
+admitted-of-fine price list v st c a b h =
+    let k = fine-of-then (need (priceFits price) fault.Price 0) (admitRuling list v st c a b) h in
+    (true-of-need (priceFits price) fault.Price 0 (k .0), k .1)
 
 -- in areas that are long enough, their lengths do not matter
-pub findings-of-long : (e f : ℕ) (list v st : List ℕ) (x : Areas) → LongEnough list v x → partitionRuling e f list v st x ≡ findings e f list v st
-findings-of-long e f list v st x h = rw (h, areas-of-most list v (length list / 12) (length list) (length v) (omega arith) (omega arith) (omega arith))
+pub findings-of-long : (price : Price) (list v st : List ℕ) (x : Areas) → LongEnough list v x → partitionRuling price list v st x ≡ findings price list v st
+findings-of-long price list v st x h = rw (h, areas-of-most list v (length list / 12) (length list) (length v) (omega arith) (omega arith) (omega arith))
 
 -- a written list that is well formed is admitted where price, lengths and areas are
 pub fine-of-written : (l : List Record) (v st : List ℕ) (c a b : ℕ) → lengthsFit v st ≡ true → length l ≤ 4096

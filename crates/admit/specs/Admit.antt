@@ -6,7 +6,7 @@ use mathlib.Core.Bool.{Bool, true, _&&_}
 use mathlib.Core.List.{List}
 use lib.Dec.{eqb, leb}
 use lib.ListN.{length}
-use Rattle.format.specs.declared.Fault.the-variants.{Price, TooLong, ListLength, AreaTooShort, Sizes}
+use Rattle.format.specs.declared.Fault.the-variants as fault
 use Rattle.format.specs.declared.Ruling.{Ruling}
 use Rattle.format.specs.Limits.{versionMost, storeMost}
 use Rattle.format.specs.Refusal.{need, _then_}
@@ -15,6 +15,7 @@ use Rattle.format.specs.Meaning.{whole}
 use Rattle.walk.specs.declared.Scope.the-variants as scope
 use Rattle.walk.specs.Checks.{checks, walkRuling}
 use Rattle.area.specs.Area.{Areas}
+use Rattle.price.specs.declared.Price.{Price}
 use Rattle.price.specs.Price.{priceFits}
 
 -- number 2's opposite
@@ -28,23 +29,23 @@ areasFit list v c a b = leb (length list / 12) c && leb (length list) a && leb (
 -- "Order", after 1: 2, 3; then 9; then record by record 4, 5, 6, 7, 8; then the short end, at place n
 abbrev pub admitRuling : List ℕ → List ℕ → List ℕ → ℕ → ℕ → ℕ → Ruling
 admitRuling list v st c a b =
-    need (lengthsFit v st) TooLong 0
-    then need (listFits list) ListLength 0
-    then need (areasFit list v c a b) AreaTooShort 0
+    need (lengthsFit v st) fault.TooLong 0
+    then need (listFits list) fault.ListLength 0
+    then need (areasFit list v c a b) fault.AreaTooShort 0
     then walkRuling (checks scope.Version v st) list
-    then need (eqb (whole (recordsOf list)) (length v)) Sizes (length (recordsOf list))
+    then need (eqb (whole (recordsOf list)) (length v)) fault.Sizes (length (recordsOf list))
 
 -- all checks, in areas of lengths c, a and b
-abbrev pub callRuling : ℕ → ℕ → List ℕ → List ℕ → List ℕ → ℕ → ℕ → ℕ → Ruling
-callRuling e f list v st c a b = need (priceFits e f) Price 0 then admitRuling list v st c a b
+abbrev pub callRuling : Price → List ℕ → List ℕ → List ℕ → ℕ → ℕ → ℕ → Ruling
+callRuling price list v st c a b = need (priceFits price) fault.Price 0 then admitRuling list v st c a b
 
 -- all checks of a call of partition or pass, in the areas that are lent to it
-abbrev pub partitionRuling : ℕ → ℕ → List ℕ → List ℕ → List ℕ → Areas → Ruling
-partitionRuling e f list v st x = callRuling e f list v st (length (x .choice)) (length (x .list)) (length (x .block))
+abbrev pub partitionRuling : Price → List ℕ → List ℕ → List ℕ → Areas → Ruling
+partitionRuling price list v st x = callRuling price list v st (length (x .choice)) (length (x .list)) (length (x .block))
 
 -- what is found in price, list, version and store by themselves: all checks, in areas of just the lengths needed
-abbrev pub findings : ℕ → ℕ → List ℕ → List ℕ → List ℕ → Ruling
-findings e f list v st = callRuling e f list v st (length list / 12) (length list) (length v)
+abbrev pub findings : Price → List ℕ → List ℕ → List ℕ → Ruling
+findings price list v st = callRuling price list v st (length list / 12) (length list) (length v)
 
 -- areas that are long enough for partition or pass of a list and a version
 abbrev pub LongEnough : List ℕ → List ℕ → Areas → Type 0

@@ -4,16 +4,17 @@ ghost use Rattle.measure.specs.Measure.{measured};
 use format::Answer;
 use format::Fault;
 use format::Figures;
+use price::Price;
 use price::Priced;
 use walk::Scope;
 use walk::Walked;
 
 // Measure: entries, stored bytes, whole length and cost of a list.
-pub fn measure(e: u32, f: u32, list: &[u8]) -> Answer
-    ensures { λ r. ⌜ r ≡ measured e f (now (list .entry)) ⌝ }
+pub fn measure(price: Price, list: &[u8]) -> Answer
+    ensures { λ r. ⌜ r ≡ measured price (now (list .entry)) ⌝ }
 {
-    let priced = price::price_of(e, f);
-    let Priced::At(p) = priced else {
+    let priced = price::rates_of(price);
+    let Priced::At(rates) = priced else {
         return format::refused(Fault::Price);
     };
     if !format::list_fits(list) {
@@ -24,7 +25,7 @@ pub fn measure(e: u32, f: u32, list: &[u8]) -> Answer
     let Walked::Through(t) = walked else {
         return Answer::Refused(walk::refusal_of(walked));
     };
-    let cost = price::cost_of(p, t.entries, price::disk(t.stored));
+    let cost = price::cost_of(rates, list, t.stored);
     Answer::Accepted(Figures {
         cost: cost.0,
         entries: t.entries,

@@ -18,6 +18,8 @@ use Rattle.format.specs.Meaning.{whole, stored, blockOf}
 use Rattle.format.proofs.Rows.{length-recordsOf}
 use Rattle.format.proofs.Encoding.{length-encode}
 use Rattle.format.proofs.Rebuilding.{length-block}
+use Rattle.price.specs.declared.Rates.{Rates}
+use Rattle.price.specs.Price.{RatesFit}
 use Rattle.area.specs.Area.{over, Areas, areas}
 use Rattle.area.proofs.Filling.{front, front-room}
 use Rattle.choice.specs.Choice.{Bit, bitBytes, bitsOf, IsChoice, listOf}
@@ -25,27 +27,27 @@ use Rattle.choice.proofs.Lists.{length-choice, bits-over}
 use Rattle.writer.specs.Write.{listIn}
 use Rattle.writer.specs.Decide.{figures, laid, Decided, Finishable, Finished}
 
-pub decided-refused : {q : Ruling} {x : Refusal} {r : Answer} (p : ℕ) (list v : List ℕ) (c : List Bit) (looks : ℕ) (before : Areas) → q ≡ Stop x → r ≡ Refused x
-    → Decided q p list v c looks before r before
-decided-refused p list v c looks before e f = record { answered = rw e f; areas-after = rw e }
+pub decided-refused : {q : Ruling} {x : Refusal} {r : Answer} (rates : Rates) (list v : List ℕ) (c : List Bit) (looks : ℕ) (before : Areas) → q ≡ Stop x → r ≡ Refused x
+    → Decided q rates list v c looks before r before
+decided-refused rates list v c looks before e f = record { answered = rw e f; areas-after = rw e }
 
 -- a choice area of the same length takes the first one's place
-pub finishable : {p : ℕ} {list v area block : List ℕ} (choice choice′ : List ℕ) → p ≤ 16711425 → length list ≤ listMost → length v ≤ versionMost → whole (recordsOf list) ≡ length v
+pub finishable : {rates : Rates} {list v area block : List ℕ} (choice choice′ : List ℕ) → RatesFit rates → length list ≤ listMost → length v ≤ versionMost → whole (recordsOf list) ≡ length v
     → length list / 12 ≤ length choice → length list ≤ length area → length v ≤ length block → length choice′ ≡ length choice
-    → Finishable p list choice′ v area block
+    → Finishable rates list choice′ v area block
 finishable choice choice′ h l m w c a b k =
     record {
-      price-most = h;
+      rates-fit = h;
       writable = record { list-most = l; version-most = m; in-version = omega (arith, w); in-choice = omega (arith, c, k); in-area = a; in-block = b };
     }
 
 -- the choice c stands in its area, and the end of the call is as it should be
-pub decided : {q : Ruling} {p : ℕ} {list v choice area block : List ℕ} {c : List Bit} {looks : ℕ} {r : Answer} {choice′ area′ block′ : List ℕ} → q ≡ Fine
-    → IsChoice (recordsOf list) c → choice′ ≡ over (bitBytes c) choice → Finished p list choice′ v looks area block r area′ block′
-    → Decided q p list v c looks (areas choice area block) r (areas choice′ area′ block′)
-decided {q} {p} {list} {v} {choice} {area} {block} {c} {looks} {r} {choice′} fine is-choice chosen done =
+pub decided : {q : Ruling} {rates : Rates} {list v choice area block : List ℕ} {c : List Bit} {looks : ℕ} {r : Answer} {choice′ area′ block′ : List ℕ} → q ≡ Fine
+    → IsChoice (recordsOf list) c → choice′ ≡ over (bitBytes c) choice → Finished rates list choice′ v looks area block r area′ block′
+    → Decided q rates list v c looks (areas choice area block) r (areas choice′ area′ block′)
+decided {q} {rates} {list} {v} {choice} {area} {block} {c} {looks} {r} {choice′} fine is-choice chosen done =
     record {
-      answered = rw fine (done .answered ∙ ap (λ (l : List Record). Accepted (figures p l looks)) listed);
+      answered = rw fine (done .answered ∙ ap (λ (l : List Record). Accepted (figures rates l looks)) listed);
       areas-after = rw (fine, chosen, done .area-after, done .block-after) (ap (λ (l : List Record). areas (over (bitBytes c) choice) (over (encode l) area) (over (blockOf l v) block)) listed);
     }
   where
@@ -53,8 +55,8 @@ decided {q} {p} {list} {v} {choice} {area} {block} {c} {looks} {r} {choice′} f
     listed = ap (listOf (recordsOf list)) (ap (bitsOf (length list / 12)) chosen ∙ bits-over (length list / 12) c choice (length-choice (recordsOf list) c is-choice ∙ length-recordsOf list))
 
 -- a call whose ruling is fine
-module _ {q : Ruling} {p : ℕ} {list v : List ℕ} {c : List Bit} {looks : ℕ} {before : Areas} {r : Answer} {after : Areas} (d : Decided q p list v c looks before r after) (fine : q ≡ Fine) where
-  pub decided-answer : r ≡ Accepted (figures p (listOf (recordsOf list) c) looks)
+module _ {q : Ruling} {rates : Rates} {list v : List ℕ} {c : List Bit} {looks : ℕ} {before : Areas} {r : Answer} {after : Areas} (d : Decided q rates list v c looks before r after) (fine : q ≡ Fine) where
+  pub decided-answer : r ≡ Accepted (figures rates (listOf (recordsOf list) c) looks)
   decided-answer = rw fine at (d .answered)
 
   pub decided-areas : after ≡ laid c (listOf (recordsOf list) c) v before
@@ -83,7 +85,7 @@ module _ {q : Ruling} {p : ℕ} {list v : List ℕ} {c : List Bit} {looks : ℕ}
     block-room = rw decided-areas (omega (arith, whole-block, front-room (blockOf (listOf (recordsOf list) c) v) (before .block)))
 
 -- so many bytes as an answer says are there, refused or not
-module _ {q : Ruling} {p : ℕ} {list v : List ℕ} {c : List Bit} {looks : ℕ} {before : Areas} {r : Answer} {after : Areas} (d : Decided q p list v c looks before r after) where
+module _ {q : Ruling} {rates : Rates} {list v : List ℕ} {c : List Bit} {looks : ℕ} {before : Areas} {r : Answer} {after : Areas} (d : Decided q rates list v c looks before r after) where
   pub list-within : 12 * figuresIn r .entries ≤ length (after .list)
   list-within = go q refl
     where

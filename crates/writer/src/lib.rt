@@ -9,7 +9,7 @@ ghost use Rattle.writer.specs.Decide.{Finishable, Finished};
 use format::Answer;
 use format::Figures;
 use format::Record;
-use price::DiskBytes;
+use price::Rates;
 
 // A record that is not written yet, as the next may join it.
 pub enum Open {
@@ -154,7 +154,7 @@ fn write_block(list: &[u8], choice: &[u8], version: &[u8], block: &mut [u8]) -> 
 
 // The end of a call: the list and the stored block of the choice, each over the front of its area, and their figures.
 pub fn finish(
-    price: DiskBytes,
+    rates: Rates,
     list: &[u8],
     choice: &[u8],
     version: &[u8],
@@ -162,15 +162,15 @@ pub fn finish(
     block: &mut [u8],
     looks: u32,
 ) -> Answer
-    requires { ⌜ Finishable (price .0) (now list) (now choice) (now version) (now area) (now block) ⌝ }
-    ensures { λ r. ⌜ Finished (price .0) (now (list .entry)) (now (choice .entry)) (now (version .entry)) looks (now (area .entry)) (now (block .entry)) r (now (area .exit)) (now (block .exit)) ⌝ }
+    requires { ⌜ Finishable rates (now list) (now choice) (now version) (now area) (now block) ⌝ }
+    ensures { λ r. ⌜ Finished rates (now (list .entry)) (now (choice .entry)) (now (version .entry)) looks (now (area .entry)) (now (block .entry)) r (now (area .exit)) (now (block .exit)) ⌝ }
 {
-    let entries = (write_list(list, choice, area) / 12) as u32;
+    let n = write_list(list, choice, area);
     let stored = write_block(list, choice, version, block) as u32;
-    let cost = price::cost_of(price, entries, price::disk(stored));
+    let cost = price::cost_of(rates, &area[0..n], stored);
     Answer::Accepted(Figures {
         cost: cost.0,
-        entries,
+        entries: (n / 12) as u32,
         stored,
         looks,
         whole: 0,

@@ -11,14 +11,14 @@ use Rattle.walk.specs.declared.Totals.{Totals}
 use Rattle.walk.specs.Checks.{checks, walkRuling}
 use Rattle.walk.specs.Walked.{refusalOf}
 use Rattle.walk.proofs.Telling.{fine-of-through, stop-of-stopped}
-use Rattle.price.proofs.Bounds.{fits-of-at, unfit-of-range, price-most}
+use Rattle.price.proofs.Bounds.{fits-of-at, unfit-of-range, rates-fit}
 use Rattle.measure.proofs.Measuring.{measured-price, measured-length, measured-stop, measured-fine}
 use borrow.Author.Needs.{needs}
 use Rattle.measure.proofs.measure.Statement.{statement}
 use Rattle.measure.proofs.measure.Tie as tie
 
-price-of-requires : tie.Need-price-of-requires
-price-of-requires c κs = search needs
+rates-of-requires : tie.Need-rates-of-requires
+rates-of-requires c κs = search needs
 
 enum-known-priced : tie.Need-enum-known-priced
 enum-known-priced c = search needs
@@ -32,7 +32,7 @@ refused-requires c κs = search needs
 returns : tie.Need-returns
 returns c =
     let g = c .before .before .before .before .before .args in
-    c .refused .ensures ∙ sym (measured-price (g .e) (g .f) (g .list .now) (unfit-of-range (g .e) (g .f) (sym (c .before .before .before .price-of .ensures) ∙ c .before .enum-told .given .1)))
+    c .refused .ensures ∙ sym (measured-price (g .price) (g .list .now) (unfit-of-range (g .price) (sym (c .before .before .before .rates-of .ensures) ∙ c .before .enum-told .given .1)))
 
 list-fits-requires : tie.Need-list-fits-requires
 list-fits-requires c κs = search needs
@@ -43,7 +43,7 @@ refused-requires-2 c κs = search needs
 returns-2 : tie.Need-returns-2
 returns-2 c =
     let g = c .before .before .before .before .before .before .before .before .args in
-    c .refused2 .ensures ∙ sym (measured-length (g .e) (g .f) (g .list .now) ((fits-of-at (g .e) (g .f) (c .before .before .before .before .priced .given .0 .0) (sym (c .before .before .before .before .before .before .price-of .ensures) ∙ c .before .before .before .before .priced .given .1)) .0) (sym (c .before .before .list-fits .ensures) ∙ not-true _ (c .before .if1 .taken)))
+    c .refused2 .ensures ∙ sym (measured-length (g .price) (g .list .now) ((fits-of-at (g .price) (c .before .before .before .before .priced .given .0 .0) (sym (c .before .before .before .before .before .before .rates-of .ensures) ∙ c .before .before .before .before .priced .given .1)) .0) (sym (c .before .before .list-fits .ensures) ∙ not-true _ (c .before .if1 .taken)))
 
 sub-none : tie.Need-sub-none
 sub-none c = search needs
@@ -73,38 +73,35 @@ returns-3 : tie.Need-returns-3
 returns-3 c =
     let g = c .before .before .before .before .before .before .before .before .before .before .before .before .args in
     let stopped = stop-of-stopped (walkRuling (checks scope.Sizes [] []) (g .list .now)) (recordsOf (g .list .now)) (c .before .enum-told2 .given .0 .0) (sym (c .before .before .before .walk .ensures) ∙ c .before .enum-told2 .given .1) in
-    ap Refused (c .refusal-of .ensures ∙ ap refusalOf (c .before .enum-told2 .given .1)) ∙ sym (measured-stop (g .e) (g .f) (g .list .now) ((fits-of-at (g .e) (g .f) (c .before .before .before .before .before .before .before .before .priced .given .0 .0) (sym (c .before .before .before .before .before .before .before .before .before .before .price-of .ensures) ∙ c .before .before .before .before .before .before .before .before .priced .given .1)) .0) (sym (c .before .before .before .before .before .before .list-fits .ensures) ∙ not-false _ (c .before .before .before .before .before .if1 .left)) _ stopped)
-
-disk-requires : tie.Need-disk-requires
-disk-requires c κs = search needs
+    ap Refused (c .refusal-of .ensures ∙ ap refusalOf (c .before .enum-told2 .given .1)) ∙ sym (measured-stop (g .price) (g .list .now) ((fits-of-at (g .price) (c .before .before .before .before .before .before .before .before .priced .given .0 .0) (sym (c .before .before .before .before .before .before .before .before .before .before .rates-of .ensures) ∙ c .before .before .before .before .before .before .before .before .priced .given .1)) .0) (sym (c .before .before .before .before .before .before .list-fits .ensures) ∙ not-false _ (c .before .before .before .before .before .if1 .left)) _ stopped)
 
 cost-of-requires : tie.Need-cost-of-requires
 cost-of-requires c κs =
-    let g = c .before .before .before .before .before .before .before .before .before .before .before .before .before .args in
-    let through = fine-of-through (walkRuling (checks scope.Sizes [] []) (g .list .now)) (recordsOf (g .list .now)) (c .before .before .walked .given .0 .0) (sym (c .before .before .before .before .walk .ensures) ∙ c .before .before .walked .given .1) in
-    let count = (counted-of-fits (g .list .now) (sym (c .before .before .before .before .before .before .before .list-fits .ensures) ∙ not-false _ (c .before .before .before .before .before .before .if1 .left))) .count-most in
-    let price = fits-of-at (g .e) (g .f) (c .before .before .before .before .before .before .before .before .before .priced .given .0 .0) (sym (c .before .before .before .before .before .before .before .before .before .before .before .price-of .ensures) ∙ c .before .before .before .before .before .before .before .before .before .priced .given .1) in (
-      omega (arith, price .1, price-most (g .e) (g .f) (price .0)),
-      omega (arith, count, ap (λ (t : Totals). t .entries) (through .1)),
-      rw (c .disk .ensures) (omega arith),
-    )
+    let g = c .before .before .before .before .before .before .before .before .before .before .before .before .args in
+    let through = fine-of-through (walkRuling (checks scope.Sizes [] []) (g .list .now)) (recordsOf (g .list .now)) (c .before .walked .given .0 .0) (sym (c .before .before .before .walk .ensures) ∙ c .before .walked .given .1) in
+    let price = fits-of-at (g .price) (c .before .before .before .before .before .before .before .before .priced .given .0 .0) (sym (c .before .before .before .before .before .before .before .before .before .before .rates-of .ensures) ∙ c .before .before .before .before .before .before .before .before .priced .given .1) in
+    record {
+      rates-fit = rw (price .1) (rates-fit (g .price) (price .0));
+      list-most = (counted-of-fits (g .list .now) (sym (c .before .before .before .before .before .before .list-fits .ensures) ∙ not-false _ (c .before .before .before .before .before .if1 .left))) .list-most;
+      stored-is = ap (λ (t : Totals). t .stored) (through .1);
+    }
 
 returns-4 : tie.Need-returns-4
 returns-4 c =
-    let g = c .before .before .before .before .before .before .before .before .before .before .before .before .before .before .args in
-    let through = fine-of-through (walkRuling (checks scope.Sizes [] []) (g .list .now)) (recordsOf (g .list .now)) (c .before .before .before .walked .given .0 .0) (sym (c .before .before .before .before .before .walk .ensures) ∙ c .before .before .before .walked .given .1) in
-    let price = fits-of-at (g .e) (g .f) (c .before .before .before .before .before .before .before .before .before .before .priced .given .0 .0) (sym (c .before .before .before .before .before .before .before .before .before .before .before .before .price-of .ensures) ∙ c .before .before .before .before .before .before .before .before .before .before .priced .given .1) in
+    let g = c .before .before .before .before .before .before .before .before .before .before .before .before .before .args in
+    let through = fine-of-through (walkRuling (checks scope.Sizes [] []) (g .list .now)) (recordsOf (g .list .now)) (c .before .before .walked .given .0 .0) (sym (c .before .before .before .before .walk .ensures) ∙ c .before .before .walked .given .1) in
+    let price = fits-of-at (g .price) (c .before .before .before .before .before .before .before .before .before .priced .given .0 .0) (sym (c .before .before .before .before .before .before .before .before .before .before .before .rates-of .ensures) ∙ c .before .before .before .before .before .before .before .before .before .priced .given .1) in
     let n = ap (λ (t : Totals). t .entries) (through .1) in
     let s = ap (λ (t : Totals). t .stored) (through .1) in
     let w = ap (λ (t : Totals). t .whole) (through .1) in
-    let k = rw (price .1, n, c .before .disk .ensures, s) at (c .cost-of .ensures) in
-    cc (measured-fine (g .e) (g .f) (g .list .now) (price .0) (sym (c .before .before .before .before .before .before .before .before .list-fits .ensures) ∙ not-false _ (c .before .before .before .before .before .before .before .if1 .left)) (through .0))
+    let k = rw (price .1) at (c .cost-of .ensures) in
+    cc (measured-fine (g .price) (g .list .now) (price .0) (sym (c .before .before .before .before .before .before .before .list-fits .ensures) ∙ not-false _ (c .before .before .before .before .before .before .if1 .left)) (through .0))
 
 pub measure-spec : {M : Type 1} → statement M
 measure-spec =
     tie.close
     (tie.spec
-    price-of-requires
+    rates-of-requires
     enum-known-priced
     enum-told
     refused-requires
@@ -120,6 +117,5 @@ measure-spec =
     enum-told-2
     refusal-of-requires
     returns-3
-    disk-requires
     cost-of-requires
     returns-4)

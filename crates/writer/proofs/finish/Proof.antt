@@ -1,13 +1,15 @@
--- `writer::finish` meets its contract: room follows from lengths, and the numbers are those of the list. Assumes nothing.
-use Prim.Native.Nat.{ℕ, _/_}
+-- `writer::finish` meets its contract: room follows from lengths, and the numbers are those of the list that was written. Assumes nothing.
+use Prim.Native.Nat.{ℕ, _-_, _/_, _≤_}
 use native.Mathlib.Omega.{arith}
-use mathlib.Core.Path.{_≡_, _∙_, ap}
-use lib.ListN.{length}
-use Rattle.format.specs.declared.Answer.the-variants.{Accepted}
+use mathlib.Core.Path.{_≡_, sym, _∙_, ap}
+use mathlib.Core.List.{List}
+use lib.ListN.{length, take}
+use Rattle.format.specs.Record.{recordsOf, encode}
 use Rattle.format.specs.Meaning.{stored}
-use Rattle.format.proofs.Encoding.{length-encode}
+use Rattle.format.proofs.Encoding.{length-encode, records-encode}
+use Rattle.area.specs.Area.{over}
+use Rattle.area.proofs.Filling.{front, front-room}
 use Rattle.price.specs.Price.{cost}
-use Rattle.price.specs.declared.DiskBytes.{DiskBytes}
 use Rattle.writer.specs.Write.{listIn}
 use Rattle.writer.proofs.Writing.{list-ready, block-ready, entries-most, block-length, block-most}
 use borrow.Author.Needs.{needs}
@@ -18,12 +20,6 @@ write-list-requires : tie.Need-write-list-requires
 write-list-requires c κs =
     let g = c .before .before .before .before .before .before .args in
     list-ready (g .list .now) (g .choice .now) (g .version .now) (g .area .now) (g .block .now) (c .before .before .before .before .before .before .pre .writable)
-
-cast-entries : tie.Need-cast-entries
-cast-entries c =
-    let g = c .before .before .before .before .before .before .before .before .before .args in
-    let w = c .before .before .before .before .before .before .before .before .before .pre .writable in
-    omega (arith, c .before .before .write-list .ensures .length-is, length-encode (listIn (g .list .now) (g .choice .now)), entries-most (g .list .now) (g .choice .now) (g .version .now) (g .area .now) (g .block .now) w, w .list-most)
 
 write-block-requires : tie.Need-write-block-requires
 write-block-requires c κs =
@@ -36,17 +32,35 @@ cast-stored c =
     let w = c .before .before .before .before .before .before .before .before .before .before .before .before .before .pre .writable in
     omega (arith, c .before .before .write-block .ensures .length-is, block-most (g .list .now) (g .choice .now) (g .version .now) (g .area .now) (g .block .now) w, w .version-most)
 
-disk-requires : tie.Need-disk-requires
-disk-requires c κs = search needs
+sub-cost-of : tie.Need-sub-cost-of
+sub-cost-of c = search needs
+
+part-cost-of-start : tie.Need-part-cost-of-start
+part-cost-of-start c = search needs
+
+part-cost-of-end : tie.Need-part-cost-of-end
+part-cost-of-end c =
+    let g = c .before .before .before .before .before .before .before .before .before .before .before .before .before .before .args in
+    omega (arith, c .before .before .before .before .before .before .before .write-list .ensures .length-is, ap length (c .before .before .before .before .before .before .before .write-list .ensures .area-after), front-room (encode (listIn (g .list .now) (g .choice .now))) (g .area .now))
 
 cost-of-requires : tie.Need-cost-of-requires
 cost-of-requires c κs =
-    let g = c .before .before .before .before .before .before .before .before .before .before .before .before .before .before .args in
-    let w = c .before .before .before .before .before .before .before .before .before .before .before .before .before .before .pre .writable in (
-      c .before .before .before .before .before .before .before .before .before .before .before .before .before .before .pre .price-most,
-      omega (arith, c .before .before .before .before .before .before .before .write-list .ensures .length-is, length-encode (listIn (g .list .now) (g .choice .now)), entries-most (g .list .now) (g .choice .now) (g .version .now) (g .area .now) (g .block .now) w, w .list-most),
-      omega (arith, ap (λ (d : DiskBytes). d .0) (c .disk .ensures), c .before .before .before .write-block .ensures .length-is, block-most (g .list .now) (g .choice .now) (g .version .now) (g .area .now) (g .block .now) w, w .version-most),
-    )
+    let g = c .before .before .before .before .before .before .before .before .before .before .before .before .before .before .before .args in
+    let w = c .before .before .before .before .before .before .before .before .before .before .before .before .before .before .before .pre .writable in
+    let l = listIn (g .list .now) (g .choice .now) in
+    let n : c .before .before .before .before .before .before .before .before .write-list .result - 0 ≡ length (encode l) = omega (arith, c .before .before .before .before .before .before .before .before .write-list .ensures .length-is) in
+    let is = ap (take (c .before .before .before .before .before .before .before .before .write-list .result - 0)) (c .before .before .before .before .before .before .before .before .write-list .ensures .area-after) ∙ front (c .before .before .before .before .before .before .before .before .write-list .result - 0) (encode l) (g .area .now) n in
+    record {
+      rates-fit = c .before .before .before .before .before .before .before .before .before .before .before .before .before .before .before .pre .rates-fit;
+      list-most = rw is (omega (arith, length-encode l, entries-most (g .list .now) (g .choice .now) (g .version .now) (g .area .now) (g .block .now) w, w .list-most));
+      stored-is = c .before .before .before .before .write-block .ensures .length-is ∙ block-length (g .list .now) (g .choice .now) (g .version .now) (g .area .now) (g .block .now) w ∙ ap stored (sym (ap recordsOf is ∙ records-encode l));
+    }
+
+cast-t19 : tie.Need-cast-t19
+cast-t19 c =
+    let g = c .before .before .before .before .before .before .before .before .before .before .before .before .before .before .before .before .args in
+    let w = c .before .before .before .before .before .before .before .before .before .before .before .before .before .before .before .before .pre .writable in
+    omega (arith, c .before .before .before .before .before .before .before .before .before .write-list .ensures .length-is, length-encode (listIn (g .list .now) (g .choice .now)), entries-most (g .list .now) (g .choice .now) (g .version .now) (g .area .now) (g .block .now) w, w .list-most)
 
 same-length : tie.Need-same-length
 same-length c = search needs
@@ -56,15 +70,17 @@ same-length-2 c = search needs
 
 returns : tie.Need-returns
 returns c =
-    let g = c .before .before .before .before .before .before .before .before .before .before .before .before .before .before .before .args in
+    let g = c .before .before .before .before .before .before .before .before .before .before .before .before .before .before .before .before .args in
     let l = listIn (g .list .now) (g .choice .now) in
-    let entries-is : c .before .before .before .before .before .before .before .before .write-list .result / 12 ≡ length l = omega (arith, c .before .before .before .before .before .before .before .before .write-list .ensures .length-is, length-encode l) in
-    let stored-is : c .before .before .before .before .write-block .result ≡ stored l = c .before .before .before .before .write-block .ensures .length-is ∙ block-length (g .list .now) (g .choice .now) (g .version .now) (g .area .now) (g .block .now) (c .before .before .before .before .before .before .before .before .before .before .before .before .before .before .before .pre .writable) in
-    let cost-is : c .cost-of .result .0 ≡ cost (g .price .0) l = c .cost-of .ensures ∙ rw (entries-is, c .before .disk .ensures, stored-is) in
+    let n : c .before .before .before .before .before .before .before .before .before .write-list .result - 0 ≡ length (encode l) = omega (arith, c .before .before .before .before .before .before .before .before .before .write-list .ensures .length-is) in
+    let is = ap (take (c .before .before .before .before .before .before .before .before .before .write-list .result - 0)) (c .before .before .before .before .before .before .before .before .before .write-list .ensures .area-after) ∙ front (c .before .before .before .before .before .before .before .before .before .write-list .result - 0) (encode l) (g .area .now) n in
+    let entries-is : c .before .before .before .before .before .before .before .before .before .write-list .result / 12 ≡ length l = omega (arith, c .before .before .before .before .before .before .before .before .before .write-list .ensures .length-is, length-encode l) in
+    let stored-is : c .before .before .before .before .before .write-block .result ≡ stored l = c .before .before .before .before .before .write-block .ensures .length-is ∙ block-length (g .list .now) (g .choice .now) (g .version .now) (g .area .now) (g .block .now) (c .before .before .before .before .before .before .before .before .before .before .before .before .before .before .before .before .pre .writable) in
+    let cost-is : c .cost-of .result .0 ≡ cost (g .rates) l = c .cost-of .ensures ∙ ap (cost (g .rates)) (ap recordsOf is ∙ records-encode l) in
     record {
       answered = rw (cost-is, entries-is, stored-is);
-      area-after = c .before .before .before .before .before .before .before .before .write-list .ensures .area-after;
-      block-after = c .before .before .before .before .write-block .ensures .area-after;
+      area-after = c .before .before .before .before .before .before .before .before .before .write-list .ensures .area-after;
+      block-after = c .before .before .before .before .before .write-block .ensures .area-after;
     }
 
 pub finish-spec : {M : Type 1} → statement M
@@ -72,11 +88,13 @@ finish-spec =
     tie.close
     (tie.spec
     write-list-requires
-    cast-entries
     write-block-requires
     cast-stored
-    disk-requires
+    sub-cost-of
+    part-cost-of-start
+    part-cost-of-end
     cost-of-requires
+    cast-t19
     same-length
     same-length-2
     returns)
