@@ -15,7 +15,8 @@ use Rattle.format.specs.Refusal.{Accepts, figuresIn}
 use Rattle.format.specs.Record.{recordsOf, encode}
 use Rattle.format.specs.Meaning.{whole, blockOf, rebuilt}
 use Rattle.format.proofs.Encoding.{records-encode}
-use Rattle.price.specs.Price.{priceFits, priceOf}
+use Rattle.price.specs.declared.Price.{Price}
+use Rattle.price.specs.Price.{priceFits, ratesOf}
 use Rattle.area.specs.Area.{over, Areas}
 use Rattle.choice.specs.Choice.{Bit, listOf, keepAll}
 use Rattle.choice.proofs.Least.{least-is-least, least-fits}
@@ -33,87 +34,87 @@ use Rattle.demand.proofs.Written.{whole-written, rebuilt-written, rebui
 accepts-of : {a : Answer} {x : Figures} → a ≡ Accepted x → Accepts a
 accepts-of e = rw e tt
 
-module _ (e f : ℕ) (list v st : List ℕ) (x : Calls) (fine : findings e f list v st ≡ Fine) (room : Room list v x) (made : Made e f list v st x) where
-  fits : priceFits e f ≡ true
-  fits = admitted-of-fine e f list v st (length list / 12) (length list) (length v) fine .0
+module _ (price : Price) (list v st : List ℕ) (x : Calls) (fine : findings price list v st ≡ Fine) (room : Room list v x) (made : Made price list v st x) where
+  fits : priceFits price ≡ true
+  fits = admitted-of-fine price list v st (length list / 12) (length list) (length v) fine .0
 
   sound : Sound list v st (length list / 12) (length list) (length v)
-  sound = sound-of-fine list v st (length list / 12) (length list) (length v) (admitted-of-fine e f list v st (length list / 12) (length list) (length v) fine .1)
+  sound = sound-of-fine list v st (length list / 12) (length list) (length v) (admitted-of-fine price list v st (length list / 12) (length list) (length v) fine .1)
 
   -- partition
-  first-fine : partitionRuling e f list v st (x .first .before) ≡ Fine
-  first-fine = findings-of-long e f list v st (x .first .before) (room .first) ∙ fine
+  first-fine : partitionRuling price list v st (x .first .before) ≡ Fine
+  first-fine = findings-of-long price list v st (x .first .before) (room .first) ∙ fine
 
-  first-answer : x .first .answer ≡ Accepted (figures (priceOf e f) (listOf (recordsOf list) (leastOf e f list)) 0)
+  first-answer : x .first .answer ≡ Accepted (figures (ratesOf price) (listOf (recordsOf list) (leastOf price list)) 0)
   first-answer = decided-answer (made .first) first-fine
 
-  whole-least : whole (listOf (recordsOf list) (leastOf e f list)) ≡ length v
-  whole-least = whole-written sound (leastOf e f list) (least-fits (priceOf e f) (recordsOf list))
+  whole-least : whole (listOf (recordsOf list) (leastOf price list)) ≡ length v
+  whole-least = whole-written sound (leastOf price list) (least-fits (ratesOf price) (recordsOf list))
 
-  list-is : writtenList (x .first) ≡ encode (listOf (recordsOf list) (leastOf e f list))
+  list-is : writtenList (x .first) ≡ encode (listOf (recordsOf list) (leastOf price list))
   list-is = list-handed-on (made .first) first-fine (ap (λ (a : Answer). 12 * figuresIn a .entries) first-answer)
 
-  block-is : writtenBlock (x .first) ≡ blockOf (listOf (recordsOf list) (leastOf e f list)) v
+  block-is : writtenBlock (x .first) ≡ blockOf (listOf (recordsOf list) (leastOf price list)) v
   block-is = block-handed-on (made .first) first-fine (ap (λ (a : Answer). figuresIn a .stored) first-answer) (omega (arith, whole-least))
 
   -- rebuild of what it wrote
-  rebuilt-made : Rebuilt (encode (listOf (recordsOf list) (leastOf e f list))) (blockOf (listOf (recordsOf list) (leastOf e f list)) v) st (x .rebuilt .before) (x .rebuilt .answer) (x .rebuilt .after)
+  rebuilt-made : Rebuilt (encode (listOf (recordsOf list) (leastOf price list))) (blockOf (listOf (recordsOf list) (leastOf price list)) v) st (x .rebuilt .before) (x .rebuilt .answer) (x .rebuilt .after)
   rebuilt-made = rw (list-is, block-is) at (made .rebuilt)
 
-  rebuilt-fine : rebuildRuling (encode (listOf (recordsOf list) (leastOf e f list))) (blockOf (listOf (recordsOf list) (leastOf e f list)) v) st (x .rebuilt .before) ≡ Fine
-  rebuilt-fine = rebuild-accepts sound (leastOf e f list) (least-fits (priceOf e f) (recordsOf list)) (x .rebuilt .before) (room .rebuilt)
+  rebuilt-fine : rebuildRuling (encode (listOf (recordsOf list) (leastOf price list))) (blockOf (listOf (recordsOf list) (leastOf price list)) v) st (x .rebuilt .before) ≡ Fine
+  rebuilt-fine = rebuild-accepts sound (leastOf price list) (least-fits (ratesOf price) (recordsOf list)) (x .rebuilt .before) (room .rebuilt)
 
   rebuilt-answer : x .rebuilt .answer ≡ Accepted (lengthOnly (length v))
   rebuilt-answer =
       rw rebuilt-fine at (rebuilt-made .answered)
-      ∙ ap (λ (l : List Record). Accepted (lengthOnly (whole l))) (records-encode (listOf (recordsOf list) (leastOf e f list)))
+      ∙ ap (λ (l : List Record). Accepted (lengthOnly (whole l))) (records-encode (listOf (recordsOf list) (leastOf price list)))
       ∙ ap (λ (n : ℕ). Accepted (lengthOnly n)) whole-least
 
   rebuilt-after : x .rebuilt .after ≡ over v (x .rebuilt .before)
   rebuilt-after =
-      let l = listOf (recordsOf list) (leastOf e f list) in
+      let l = listOf (recordsOf list) (leastOf price list) in
       rw rebuilt-fine at (rebuilt-made .area-after)
       ∙ ap (λ (k : List Record). over (rebuilt k (blockOf l v) st) (x .rebuilt .before)) (records-encode l)
-      ∙ ap (λ (y : List ℕ). over y (x .rebuilt .before)) (rebuilt-written sound (leastOf e f list) (least-fits (priceOf e f) (recordsOf list)))
+      ∙ ap (λ (y : List ℕ). over y (x .rebuilt .before)) (rebuilt-written sound (leastOf price list) (least-fits (ratesOf price) (recordsOf list)))
 
   -- partition of what it wrote
-  again-made : Partitioned e f (encode (listOf (recordsOf list) (leastOf e f list))) v st (x .again .before) (x .again .answer) (x .again .after)
+  again-made : Partitioned price (encode (listOf (recordsOf list) (leastOf price list))) v st (x .again .before) (x .again .answer) (x .again .after)
   again-made = rw list-is at (made .again)
 
-  again-room : LongEnough (encode (listOf (recordsOf list) (leastOf e f list))) v (x .again .before)
+  again-room : LongEnough (encode (listOf (recordsOf list) (leastOf price list))) v (x .again .before)
   again-room = rw list-is at (room .again)
 
-  again-fine : partitionRuling e f (encode (listOf (recordsOf list) (leastOf e f list))) v st (x .again .before) ≡ Fine
-  again-fine = partition-accepts sound (leastOf e f list) (least-fits (priceOf e f) (recordsOf list)) e f fits (x .again .before) again-room
+  again-fine : partitionRuling price (encode (listOf (recordsOf list) (leastOf price list))) v st (x .again .before) ≡ Fine
+  again-fine = partition-accepts sound (leastOf price list) (least-fits (ratesOf price) (recordsOf list)) price fits (x .again .before) again-room
 
-  again-answer : x .again .answer ≡ Accepted (figures (priceOf e f) (listOf (recordsOf list) (leastOf e f list)) 0)
-  again-answer = decided-answer again-made again-fine ∙ ap (λ (l : List Record). Accepted (figures (priceOf e f) l 0)) (list-again e f list)
+  again-answer : x .again .answer ≡ Accepted (figures (ratesOf price) (listOf (recordsOf list) (leastOf price list)) 0)
+  again-answer = decided-answer again-made again-fine ∙ ap (λ (l : List Record). Accepted (figures (ratesOf price) l 0)) (list-again price list)
 
-  again-after : let l = listOf (recordsOf list) (leastOf e f list) in x .again .after ≡ laid (keepAll l) l v (x .again .before)
+  again-after : let l = listOf (recordsOf list) (leastOf price list) in x .again .after ≡ laid (keepAll l) l v (x .again .before)
   again-after =
-      let l = listOf (recordsOf list) (leastOf e f list) in
+      let l = listOf (recordsOf list) (leastOf price list) in
       decided-areas again-made again-fine
-      ∙ ap (λ (c : List Bit). laid c (listOf (recordsOf (encode l)) (leastOf e f (encode l))) v (x .again .before)) (least-again e f list)
-      ∙ ap (λ (k : List Record). laid (keepAll l) k v (x .again .before)) (list-again e f list)
+      ∙ ap (λ (c : List Bit). laid c (listOf (recordsOf (encode l)) (leastOf price (encode l))) v (x .again .before)) (least-again price list)
+      ∙ ap (λ (k : List Record). laid (keepAll l) k v (x .again .before)) (list-again price list)
 
   -- the pass
-  pass-fine : partitionRuling e f list v st (x .passed .before) ≡ Fine
-  pass-fine = findings-of-long e f list v st (x .passed .before) (room .passed) ∙ fine
+  pass-fine : partitionRuling price list v st (x .passed .before) ≡ Fine
+  pass-fine = findings-of-long price list v st (x .passed .before) (room .passed) ∙ fine
 
-  pass-answer : x .passed .answer ≡ Accepted (figures (priceOf e f) (listOf (recordsOf list) (passChoiceOf e f list)) (passLooksOf e f list))
+  pass-answer : x .passed .answer ≡ Accepted (figures (ratesOf price) (listOf (recordsOf list) (passChoiceOf price list)) (passLooksOf price list))
   pass-answer = decided-answer (made .passed .decided) pass-fine
 
-  holds : PassHolds (priceOf e f) (recordsOf list)
-  holds = pass-holds (priceOf e f) (recordsOf list) (sound .well-formed .sized) (sound .well-formed .apart)
+  holds : PassHolds (ratesOf price) (recordsOf list)
+  holds = pass-holds (ratesOf price) (recordsOf list) (sound .well-formed .sized) (sound .well-formed .apart)
 
-  demand-of-calls : Demand e f list v x
+  demand-of-calls : Demand price list v x
   demand-of-calls =
       record {
-        choice = leastOf e f list;
+        choice = leastOf price list;
         first-accepted = accepts-of first-answer;
         first-written = decided-areas (made .first) first-fine;
         first-figures = ap figuresIn first-answer;
-        is-least = least-is-least (priceOf e f) (recordsOf list);
+        is-least = least-is-least (ratesOf price) (recordsOf list);
         rebuilt-accepted = accepts-of rebuilt-answer;
         rebuilt-figures = ap figuresIn rebuilt-answer;
         rebuilt-version = rebuilt-after;
@@ -123,7 +124,7 @@ module _ (e f : ℕ) (list v st : List ℕ) (x : Calls) (fine : findings e f lis
         passed-accepted = accepts-of pass-answer;
         passed-figures = ap figuresIn pass-answer;
         passed-written = decided-areas (made .passed .decided) pass-fine;
-        no-less = rw (first-answer, pass-answer) (least-is-least (priceOf e f) (recordsOf list) .cheapest (passChoiceOf e f list) (holds .choice));
+        no-less = rw (first-answer, pass-answer) (least-is-least (ratesOf price) (recordsOf list) .cheapest (passChoiceOf price list) (holds .choice));
         no-more = rw pass-answer (holds .lower);
         few-looks = made .passed .few-looks;
       }
@@ -132,15 +133,15 @@ pub demand-three : DemandThree
 demand-three = demand-of-calls
 
 -- the bytes of the stored block that partition says it wrote are there to be handed on
-pub block-there : (e f : ℕ) (list v st : List ℕ) {before : Areas} {r : Answer} {after : Areas} → Partitioned e f list v st before r after
+pub block-there : (price : Price) (list v st : List ℕ) {before : Areas} {r : Answer} {after : Areas} → Partitioned price list v st before r after
     → figuresIn r .stored ≤ length (after .block)
-block-there e f list v st {before} d = block-within d in-version
+block-there price list v st {before} d = block-within d in-version
   where
-    in-version : partitionRuling e f list v st before ≡ Fine → whole (listOf (recordsOf list) (leastOf e f list)) ≤ length v
+    in-version : partitionRuling price list v st before ≡ Fine → whole (listOf (recordsOf list) (leastOf price list)) ≤ length v
     in-version fine =
-        let k = admitted-of-fine e f list v st (length (before .choice)) (length (before .list)) (length (before .block)) fine .1 in
+        let k = admitted-of-fine price list v st (length (before .choice)) (length (before .list)) (length (before .block)) fine .1 in
         let s = sound-of-fine list v st (length (before .choice)) (length (before .list)) (length (before .block)) k in
-        omega (arith, whole-written s (leastOf e f list) (least-fits (priceOf e f) (recordsOf list)))
+        omega (arith, whole-written s (leastOf price list) (least-fits (ratesOf price) (recordsOf list)))
 
-pub demonstrated : {e f : ℕ} {list v st : List ℕ} {x : Calls} → Made e f list v st x → Demonstrated e f list v st x
-demonstrated {e} {f} {list} {v} {st} {x} made = record { made = made; holds = λ fine room. demand-three e f list v st x fine room made }
+pub demonstrated : {price : Price} {list v st : List ℕ} {x : Calls} → Made price list v st x → Demonstrated price list v st x
+demonstrated {price} {list} {v} {st} {x} made = record { made = made; holds = λ fine room. demand-three price list v st x fine room made }

@@ -17,7 +17,8 @@ use Rattle.format.specs.WellFormed.{WellFormed, Readable}
 use Rattle.format.proofs.Encoding.{records-encode, fits-encode}
 use Rattle.format.proofs.Rebuilding.{rebuilt-block, length-block, whole-agrees, inside-agrees}
 use Rattle.walk.proofs.Written.{walk-sizes}
-use Rattle.price.specs.Price.{priceFits, priceOf}
+use Rattle.price.specs.declared.Price.{Price}
+use Rattle.price.specs.Price.{priceFits, ratesOf}
 use Rattle.measure.specs.Measure.{measured, measures}
 use Rattle.measure.proofs.Measuring.{measured-fine}
 use Rattle.area.specs.Area.{Areas}
@@ -53,13 +54,13 @@ module _ {list v st : List ℕ} {c a b : ℕ} (s : Sound list v st c a b) (d : L
       }
 
   -- entries, stored bytes and cost are as measure gives them
-  pub measured-written : (e f : ℕ) → priceFits e f ≡ true
-      → measured e f (encode (listOf (recordsOf list) d)) ≡ Accepted (measures (priceOf e f) (listOf (recordsOf list) d))
-  measured-written e f fits =
+  pub measured-written : (price : Price) → priceFits price ≡ true
+      → measured price (encode (listOf (recordsOf list) d)) ≡ Accepted (measures (ratesOf price) (listOf (recordsOf list) d))
+  measured-written price fits =
       let w = well-formed-written in
-      measured-fine e f (encode (listOf (recordsOf list) d)) fits (fits-encode (listOf (recordsOf list) d) count-written)
+      measured-fine price (encode (listOf (recordsOf list) d)) fits (fits-encode (listOf (recordsOf list) d) count-written)
       (walk-sizes (listOf (recordsOf list) d) (w .sized) (w .apart) (omega (arith, whole-written, s .version-most)))
-      ∙ ap (λ (l : List Record). Accepted (measures (priceOf e f) l)) (records-encode (listOf (recordsOf list) d))
+      ∙ ap (λ (l : List Record). Accepted (measures (ratesOf price) l)) (records-encode (listOf (recordsOf list) d))
 
   -- rebuilt with its stored block, it is accepted and gives the version
   pub rebuilt-written : rebuilt (listOf (recordsOf list) d) (blockOf (listOf (recordsOf list) d) v) st ≡ v
@@ -72,14 +73,14 @@ module _ {list v st : List ℕ} {c a b : ℕ} (s : Sound list v st c a b) (d : L
       (rw (records-encode l, whole-written) room)
 
   -- handed to partition again, it is accepted
-  pub partition-accepts : (e f : ℕ) → priceFits e f ≡ true → (x : Areas) → LongEnough (encode (listOf (recordsOf list) d)) v x
-      → partitionRuling e f (encode (listOf (recordsOf list) d)) v st x ≡ Fine
-  partition-accepts e f fits x room =
+  pub partition-accepts : (price : Price) → priceFits price ≡ true → (x : Areas) → LongEnough (encode (listOf (recordsOf list) d)) v x
+      → partitionRuling price (encode (listOf (recordsOf list) d)) v st x ≡ Fine
+  partition-accepts price fits x room =
       rw (fits, fine-of-written (listOf (recordsOf list) d) v st (length (x .choice)) (length (x .list)) (length (x .block)) (s .lengths-fit) count-written room well-formed-written)
 
 -- partition's list, partitioned again
-pub least-again : (e f : ℕ) (list : List ℕ) → let l = listOf (recordsOf list) (leastOf e f list) in leastOf e f (encode l) ≡ keepAll l
-least-again e f list = rw (records-encode (listOf (recordsOf list) (leastOf e f list))) (again-keeps (priceOf e f) (recordsOf list))
+pub least-again : (price : Price) (list : List ℕ) → let l = listOf (recordsOf list) (leastOf price list) in leastOf price (encode l) ≡ keepAll l
+least-again price list = rw (records-encode (listOf (recordsOf list) (leastOf price list))) (again-keeps (ratesOf price) (recordsOf list))
 
-pub list-again : (e f : ℕ) (list : List ℕ) → let l = listOf (recordsOf list) (leastOf e f list) in listOf (recordsOf (encode l)) (leastOf e f (encode l)) ≡ l
-list-again e f list = rw (records-encode (listOf (recordsOf list) (leastOf e f list))) (again-list (priceOf e f) (recordsOf list))
+pub list-again : (price : Price) (list : List ℕ) → let l = listOf (recordsOf list) (leastOf price list) in listOf (recordsOf (encode l)) (leastOf price (encode l)) ≡ l
+list-again price list = rw (records-encode (listOf (recordsOf list) (leastOf price list))) (again-list (ratesOf price) (recordsOf list))

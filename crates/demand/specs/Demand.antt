@@ -11,7 +11,8 @@ use Rattle.format.specs.declared.Answer.{Answer}
 use Rattle.format.specs.declared.Ruling.the-variants.{Fine}
 use Rattle.format.specs.Refusal.{Accepts, figuresIn}
 use Rattle.format.specs.Record.{recordsOf}
-use Rattle.price.specs.Price.{priceOf, cost}
+use Rattle.price.specs.declared.Price.{Price}
+use Rattle.price.specs.Price.{ratesOf, cost}
 use Rattle.area.specs.Area.{over, Areas}
 use Rattle.choice.specs.Choice.{Bit, listOf, IsLeast, keepAll}
 use Rattle.admit.specs.Admit.{findings, LongEnough}
@@ -48,11 +49,11 @@ abbrev pub writtenBlock : Call → List ℕ
 writtenBlock x = take (figuresIn (x .answer) .stored) (x .after .block)
 
 -- each of the four is that call: its contract holds of its answer and its areas
-pub record Made (e f : ℕ) (list v st : List ℕ) (x : Calls) : Type 0 where
-  pub first : Partitioned e f list v st (x .first .before) (x .first .answer) (x .first .after)
+pub record Made (price : Price) (list v st : List ℕ) (x : Calls) : Type 0 where
+  pub first : Partitioned price list v st (x .first .before) (x .first .answer) (x .first .after)
   pub rebuilt : Rebuilt (writtenList (x .first)) (writtenBlock (x .first)) st (x .rebuilt .before) (x .rebuilt .answer) (x .rebuilt .after)
-  pub again : Partitioned e f (writtenList (x .first)) v st (x .again .before) (x .again .answer) (x .again .after)
-  pub passed : PassMade e f list v st (x .passed .before) (x .passed .answer) (x .passed .after)
+  pub again : Partitioned price (writtenList (x .first)) v st (x .again .before) (x .again .answer) (x .again .after)
+  pub passed : PassMade price list v st (x .passed .before) (x .passed .answer) (x .passed .after)
 
 -- "in areas long enough for them": each call's areas for what that call is given
 pub record Room (list v : List ℕ) (x : Calls) : Type 0 where
@@ -62,7 +63,7 @@ pub record Room (list v : List ℕ) (x : Calls) : Type 0 where
   pub passed : LongEnough list v (x .passed .before)
 
 -- what is said of the four calls, for the price and the list handed in
-pub record Demand (e f : ℕ) (list v : List ℕ) (x : Calls) : Type 0 where
+pub record Demand (price : Price) (list v : List ℕ) (x : Calls) : Type 0 where
   -- the choice that partition writes
   pub choice : List Bit
   -- "Where document 01 finds no fault in list, version, store, price and areas, partition accepts them"
@@ -70,10 +71,10 @@ pub record Demand (e f : ℕ) (list v : List ℕ) (x : Calls) : Type 0 where
   -- "The list it writes is the one that document 01 makes of the choice it writes"
   pub first-written : x .first .after ≡ laid choice (listOf (recordsOf list) choice) v (x .first .before)
   -- "the entries, stored bytes and cost it gives are that list's"
-  pub first-figures : figuresIn (x .first .answer) ≡ figures (priceOf e f) (listOf (recordsOf list) choice) 0
+  pub first-figures : figuresIn (x .first .answer) ≡ figures (ratesOf price) (listOf (recordsOf list) choice) 0
   -- "Every other choice .. makes a list that costs at least as much. Where one costs exactly as much, partition's choice is the one that keeps at
   -- the first record where the two differ"
-  pub is-least : IsLeast (priceOf e f) (recordsOf list) choice
+  pub is-least : IsLeast (ratesOf price) (recordsOf list) choice
   -- "Rebuild makes the version again from the written list, its stored block and the store"
   pub rebuilt-accepted : Accepts (x .rebuilt .answer)
   pub rebuilt-figures : figuresIn (x .rebuilt .answer) ≡ lengthOnly (length v)
@@ -84,17 +85,17 @@ pub record Demand (e f : ℕ) (list v : List ℕ) (x : Calls) : Type 0 where
   pub again-written : x .again .after ≡ laid (keepAll (listOf (recordsOf list) choice)) (listOf (recordsOf list) choice) v (x .again .before)
   -- "The pass, look by look the one that document 01 writes out and given what partition was first given"
   pub passed-accepted : Accepts (x .passed .answer)
-  pub passed-figures : figuresIn (x .passed .answer) ≡ figures (priceOf e f) (listOf (recordsOf list) (passChoiceOf e f list)) (passLooksOf e f list)
-  pub passed-written : x .passed .after ≡ laid (passChoiceOf e f list) (listOf (recordsOf list) (passChoiceOf e f list)) v (x .passed .before)
+  pub passed-figures : figuresIn (x .passed .answer) ≡ figures (ratesOf price) (listOf (recordsOf list) (passChoiceOf price list)) (passLooksOf price list)
+  pub passed-written : x .passed .after ≡ laid (passChoiceOf price list) (listOf (recordsOf list) (passChoiceOf price list)) v (x .passed .before)
   -- "costs no less than partition's list and no more than the list first handed in"
   pub no-less : figuresIn (x .first .answer) .cost ≤ figuresIn (x .passed .answer) .cost
-  pub no-more : figuresIn (x .passed .answer) .cost ≤ cost (priceOf e f) (recordsOf list)
+  pub no-more : figuresIn (x .passed .answer) .cost ≤ cost (ratesOf price) (recordsOf list)
   -- "It counts at most 2n - 1 looks for n records, none for n = 0"
   pub few-looks : figuresIn (x .passed .answer) .looks ≤ 2 * length (recordsOf list) - 1
 
 -- demand 3: where nothing is found in price, list, version and store, it holds of any four calls in areas long enough for them
 abbrev pub DemandThree : Type 0
-DemandThree = (e f : ℕ) (list v st : List ℕ) (x : Calls) → findings e f list v st ≡ Fine → Room list v x → Made e f list v st x → Demand e f list v x
+DemandThree = (price : Price) (list v st : List ℕ) (x : Calls) → findings price list v st ≡ Fine → Room list v x → Made price list v st x → Demand price list v x
 
 -- ---- the calls as one function makes them
 
@@ -109,6 +110,6 @@ callsOf r first first′ out out′ again again′ passed passed′ =
     }
 
 -- each is the call that it should be, and demand 3 holds of them
-pub record Demonstrated (e f : ℕ) (list v st : List ℕ) (x : Calls) : Type 0 where
-  pub made : Made e f list v st x
-  pub holds : findings e f list v st ≡ Fine → Room list v x → Demand e f list v x
+pub record Demonstrated (price : Price) (list v st : List ℕ) (x : Calls) : Type 0 where
+  pub made : Made price list v st x
+  pub holds : findings price list v st ≡ Fine → Room list v x → Demand price list v x

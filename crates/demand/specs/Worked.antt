@@ -1,10 +1,14 @@
 -- The worked examples of document 01 (its sheets A to J), for P = 10, as one table: the list; the least choice and its cost; the pass's cost and looks.
 -- Assumes nothing.
 use Prim.Native.Nat.{ℕ}
-use mathlib.Core.List.{List, [], _∷_}
+use mathlib.Core.Path.{_≡_}
+use mathlib.Core.List.{List, [], _∷_, map}
 use Rattle.format.specs.declared.Record.{Record}
 use Rattle.format.specs.declared.Record.the-variants.{New, Match}
-use Rattle.choice.specs.Choice.{Bit, keep, store}
+use Rattle.price.specs.declared.Rates.{Rates}
+use Rattle.price.specs.Price.{ratesOf}
+use Rattle.choice.specs.Choice.{Bit, keep, store, costOf, least}
+use Rattle.pass.specs.Pass.{passChoice, passLooks}
 
 pub record Worked : Type 0 where
   pub list : List Record
@@ -30,3 +34,16 @@ table =
     ∷ worked (Match 6 0 ∷ Match 6 50 ∷ Match 6 90 ∷ []) (store ∷ store ∷ store ∷ []) 28 30 3
     ∷ worked (Match 10 0 ∷ Match 4 50 ∷ Match 4 90 ∷ []) (keep ∷ store ∷ store ∷ []) 28 28 4
     ∷ []
+
+-- E 10, F 1
+abbrev pub rates : Rates
+rates = ratesOf (record { e = 10; f = 1 })
+
+-- an example as the definitions have it
+abbrev pub solved : Worked → Worked
+solved s =
+    worked (s .list) (least rates (s .list)) (costOf rates (s .list) (least rates (s .list))) (costOf rates (s .list) (passChoice rates (s .list))) (passLooks rates (s .list))
+
+-- the definitions have each as the table has it
+abbrev pub TableHolds : Type 0
+TableHolds = map solved table ≡ table

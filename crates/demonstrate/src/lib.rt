@@ -6,6 +6,7 @@ ghost use Rattle.least.specs.Partition.{Partitioned};
 ghost use Rattle.demand.specs.Demand.{callsOf, Demonstrated};
 use demand::Answers;
 use format::Answer;
+use price::Price;
 
 // What rebuild and partition answered.
 pub struct Both {
@@ -15,8 +16,7 @@ pub struct Both {
 
 // Rebuild and partition, each given the list that was written, and what else it needs.
 fn hand_on<'a>(
-    e: u32,
-    f: u32,
+    price: Price,
     list: &[u8],
     block: &'a [u8],
     version: &'a [u8],
@@ -27,17 +27,16 @@ fn hand_on<'a>(
     block2: &mut [u8],
 ) -> Both
     ensures { λ r. ⌜ Rebuilt (now (list .entry)) (now (block .entry)) (now (store .entry)) (now (out .entry)) (r .rebuilt) (now (out .exit)) ⌝ }
-    ensures { λ r. ⌜ Partitioned e f (now (list .entry)) (now (version .entry)) (now (store .entry)) (areas (now (choice2 .entry)) (now (area2 .entry)) (now (block2 .entry))) (r .again) (areas (now (choice2 .exit)) (now (area2 .exit)) (now (block2 .exit))) ⌝ }
+    ensures { λ r. ⌜ Partitioned price (now (list .entry)) (now (version .entry)) (now (store .entry)) (areas (now (choice2 .entry)) (now (area2 .entry)) (now (block2 .entry))) (r .again) (areas (now (choice2 .exit)) (now (area2 .exit)) (now (block2 .exit))) ⌝ }
 {
     let rebuilt = rebuild::rebuild(list, block, store, out);
-    let again = least::partition(e, f, list, version, store, choice2, area2, block2);
+    let again = least::partition(price, list, version, store, choice2, area2, block2);
     Both { rebuilt, again }
 }
 
 // The four calls, one after the other. What a refused partition wrote is an empty list with an empty block.
 pub fn demonstrate<'a>(
-    e: u32,
-    f: u32,
+    price: Price,
     list: &[u8],
     version: &'a [u8],
     store: &'a [u8],
@@ -52,15 +51,14 @@ pub fn demonstrate<'a>(
     area3: &mut [u8],
     block3: &mut [u8],
 ) -> Answers
-    ensures { λ r. ⌜ Demonstrated e f (now (list .entry)) (now (version .entry)) (now (store .entry)) (callsOf r (areas (now (choice .entry)) (now (area .entry)) (now (block .entry))) (areas (now (choice .exit)) (now (area .exit)) (now (block .exit))) (now (out .entry)) (now (out .exit)) (areas (now (choice2 .entry)) (now (area2 .entry)) (now (block2 .entry))) (areas (now (choice2 .exit)) (now (area2 .exit)) (now (block2 .exit))) (areas (now (choice3 .entry)) (now (area3 .entry)) (now (block3 .entry))) (areas (now (choice3 .exit)) (now (area3 .exit)) (now (block3 .exit)))) ⌝ }
+    ensures { λ r. ⌜ Demonstrated price (now (list .entry)) (now (version .entry)) (now (store .entry)) (callsOf r (areas (now (choice .entry)) (now (area .entry)) (now (block .entry))) (areas (now (choice .exit)) (now (area .exit)) (now (block .exit))) (now (out .entry)) (now (out .exit)) (areas (now (choice2 .entry)) (now (area2 .entry)) (now (block2 .entry))) (areas (now (choice2 .exit)) (now (area2 .exit)) (now (block2 .exit))) (areas (now (choice3 .entry)) (now (area3 .entry)) (now (block3 .entry))) (areas (now (choice3 .exit)) (now (area3 .exit)) (now (block3 .exit)))) ⌝ }
 {
-    let first = least::partition(e, f, list, version, store, choice, area, block);
+    let first = least::partition(price, list, version, store, choice, area, block);
     let figures = format::figures_of(first);
     let n = 12 * format::index(figures.entries);
     let m = format::index(figures.stored);
     let both = hand_on(
-        e,
-        f,
+        price,
         &area[0..n],
         &block[0..m],
         version,
@@ -72,7 +70,7 @@ pub fn demonstrate<'a>(
     );
     let rebuilt = both.rebuilt;
     let again = both.again;
-    let passed = linear::pass(e, f, list, version, store, choice3, area3, block3);
+    let passed = linear::pass(price, list, version, store, choice3, area3, block3);
     Answers {
         first,
         rebuilt,

@@ -6,7 +6,8 @@ use lib.ListN.{length}
 use Rattle.format.specs.declared.Answer.{Answer}
 use Rattle.format.specs.Refusal.{figuresIn}
 use Rattle.format.specs.Record.{recordsOf}
-use Rattle.price.specs.Price.{priceOf}
+use Rattle.price.specs.declared.Price.{Price}
+use Rattle.price.specs.Price.{ratesOf}
 use Rattle.area.specs.Area.{Areas}
 use Rattle.choice.specs.Choice.{Bit}
 use Rattle.admit.specs.Admit.{partitionRuling}
@@ -14,13 +15,13 @@ use Rattle.writer.specs.Decide.{Decided}
 use Rattle.pass.specs.Pass.{passChoice, passLooks}
 
 -- the choice of the machine's last list, for a list of bytes, and the looks
-abbrev pub passChoiceOf : ℕ → ℕ → List ℕ → List Bit
-passChoiceOf e f list = passChoice (priceOf e f) (recordsOf list)
+abbrev pub passChoiceOf : Price → List ℕ → List Bit
+passChoiceOf price list = passChoice (ratesOf price) (recordsOf list)
 
-abbrev pub passLooksOf : ℕ → ℕ → List ℕ → ℕ
-passLooksOf e f list = passLooks (priceOf e f) (recordsOf list)
+abbrev pub passLooksOf : Price → List ℕ → ℕ
+passLooksOf price list = passLooks (ratesOf price) (recordsOf list)
 
 -- that choice, its list and its stored block; the answer carries its cost, entries and stored bytes, and the looks, which are few
-pub record PassMade (e f : ℕ) (list v st : List ℕ) (before : Areas) (r : Answer) (after : Areas) : Type 0 where
-  pub decided : Decided (partitionRuling e f list v st before) (priceOf e f) list v (passChoiceOf e f list) (passLooksOf e f list) before r after
+pub record PassMade (price : Price) (list v st : List ℕ) (before : Areas) (r : Answer) (after : Areas) : Type 0 where
+  pub decided : Decided (partitionRuling price list v st before) (ratesOf price) list v (passChoiceOf price list) (passLooksOf price list) before r after
   pub few-looks : figuresIn r .looks ≤ 2 * length (recordsOf list) - 1

@@ -3,14 +3,14 @@ ghost use Rattle.area.specs.Area.{areas};
 ghost use Rattle.linear.specs.Linear.{PassMade};
 use format::Answer;
 use format::Fault;
+use price::Price;
 use price::Priced;
 use walk::Walked;
 
 // Pass: the choice of the machine's last list, its list and its stored block, each over the front of its area, and the looks it took; nothing is
 // written where it refuses.
 pub fn pass(
-    e: u32,
-    f: u32,
+    price: Price,
     list: &[u8],
     version: &[u8],
     store: &[u8],
@@ -18,16 +18,16 @@ pub fn pass(
     area: &mut [u8],
     block: &mut [u8],
 ) -> Answer
-    ensures { λ r. ⌜ PassMade e f (now (list .entry)) (now (version .entry)) (now (store .entry)) (areas (now (choice .entry)) (now (area .entry)) (now (block .entry))) r (areas (now (choice .exit)) (now (area .exit)) (now (block .exit))) ⌝ }
+    ensures { λ r. ⌜ PassMade price (now (list .entry)) (now (version .entry)) (now (store .entry)) (areas (now (choice .entry)) (now (area .entry)) (now (block .entry))) r (areas (now (choice .exit)) (now (area .exit)) (now (block .exit))) ⌝ }
 {
-    let priced = price::price_of(e, f);
-    let Priced::At(p) = priced else {
+    let priced = price::rates_of(price);
+    let Priced::At(rates) = priced else {
         return format::refused(Fault::Price);
     };
     let w = admit::admit(list, version, store, choice.len(), area.len(), block.len());
     let Walked::Through(_totals) = w else {
         return Answer::Refused(walk::refusal_of(w));
     };
-    let looks = pass::pass_choice(p, list, choice);
-    writer::finish(p, list, choice, version, area, block, looks)
+    let looks = pass::pass_choice(rates, list, choice);
+    writer::finish(rates, list, choice, version, area, block, looks)
 }

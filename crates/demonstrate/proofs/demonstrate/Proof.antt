@@ -44,7 +44,7 @@ part-hand-on-start-2 c = search needs
 part-hand-on-end-2 : tie.Need-part-hand-on-end-2
 part-hand-on-end-2 c =
     let g = c .before .before .before .before .before .before .before .before .before .before .before .before .before .before .before .before .before .before .before .before .before .before .before .before .before .before .before .before .before .args in
-    omega (arith, c .before .before .before .index2 .ensures .0, ap (λ (y : Figures). y .stored) (c .before .before .before .before .before .figures-of .ensures), block-there (g .e) (g .f) (g .list .now) (g .version .now) (g .store .now) (c .before .before .before .before .before .before .before .before .before .before .before .before .partition .ensures))
+    omega (arith, c .before .before .before .index2 .ensures .0, ap (λ (y : Figures). y .stored) (c .before .before .before .before .before .figures-of .ensures), block-there (g .price) (g .list .now) (g .version .now) (g .store .now) (c .before .before .before .before .before .before .before .before .before .before .before .before .partition .ensures))
 
 hand-on-requires : tie.Need-hand-on-requires
 hand-on-requires c κs = search needs
