@@ -7,6 +7,7 @@ ghost use mathlib.Core.Path.{_≡_};
 ghost use lib.ListN.{length};
 ghost use Rattle.io.specs.Counts.{Counts};
 ghost use Rattle.console.specs.Price.{priceIn};
+use price::Price;
 
 // What was read of a file: whether it is bad, and how many bytes are at the front of its buffer.
 pub struct Read {
@@ -14,9 +15,9 @@ pub struct Read {
     pub bytes: usize,
 }
 
-// What was read of the file price: E and F, or that it is bad.
-pub enum Price {
-    Of(u32, u32),
+// What the file price holds: a price, or it is bad.
+pub enum PriceFile {
+    Holds(Price),
     Bad,
 }
 
@@ -49,13 +50,16 @@ fn number(low: u8, high: u8) -> u32
 }
 
 // The price in the bytes of the file price.
-pub fn price_in(bytes: &[u8]) -> Price
+pub fn price_in(bytes: &[u8]) -> PriceFile
     ensures { λ r. ⌜ r ≡ priceIn (now (bytes .entry)) ⌝ }
 {
     if bytes.len() != 4 {
-        return Price::Bad;
+        return PriceFile::Bad;
     }
-    Price::Of(number(bytes[0], bytes[1]), number(bytes[2], bytes[3]))
+    PriceFile::Holds(Price {
+        e: number(bytes[0], bytes[1]),
+        f: number(bytes[2], bytes[3]),
+    })
 }
 
 // An area for the text of any list in a file of 65,536 bytes.

@@ -8,6 +8,7 @@ use borrow.Author.Tests.{lt-ltb, le-ltb}
 use Rattle.format.specs.declared.Answer.{Answer}
 use Rattle.format.specs.declared.Ruling.{Ruling}
 use Rattle.choice.specs.Choice.{Bit}
+use Rattle.price.specs.declared.Rates.{Rates}
 use Rattle.area.specs.Area.{Areas}
 use Rattle.writer.specs.Decide.{decidedAnswer, decidedAreas, Decided}
 use Rattle.controller.specs.Layout.{toldOf, given, Answered, lent}
@@ -28,16 +29,16 @@ pub lent-given : {A : Type 0} (answer : List ℕ) (after before : A) → 32 ≤ 
 lent-given answer after before h = rw (le-ltb (length answer) 32 h)
 
 -- a call that decides for a choice, not made, and made
-pub call-short : (q : Ruling) (p : ℕ) (list v : List ℕ) (c : List Bit) (looks : ℕ) (before : Areas) (answer : List ℕ) → length answer < 32
-    → CallGiven q p list v c looks before answer 9 before answer
-call-short q p list v c looks before answer h =
-    record { answered = answered-short (decidedAnswer q p list c looks) answer h; areas-after = lent-short answer (decidedAreas q list v c before) before h }
+pub call-short : (q : Ruling) (rates : Rates) (list v : List ℕ) (c : List Bit) (looks : ℕ) (before : Areas) (answer : List ℕ) → length answer < 32
+    → CallGiven q rates list v c looks before answer 9 before answer
+call-short q rates list v c looks before answer h =
+    record { answered = answered-short (decidedAnswer q rates list c looks) answer h; areas-after = lent-short answer (decidedAreas q list v c before) before h }
 
-pub call-given : {q : Ruling} {p : ℕ} {list v : List ℕ} {c : List Bit} {looks : ℕ} {before : Areas} {answer : List ℕ} {a : Answer} {r : ℕ} {after : Areas} {answer′ : List ℕ}
-    → 32 ≤ length answer → Decided q p list v c looks before a after → r ≡ toldOf a .number → answer′ ≡ given a answer
-    → CallGiven q p list v c looks before answer r after answer′
-call-given {q} {p} {list} {v} {c} {looks} {before} {answer} {a} {r} {after} {answer′} h d e f =
+pub call-given : {q : Ruling} {rates : Rates} {list v : List ℕ} {c : List Bit} {looks : ℕ} {before : Areas} {answer : List ℕ} {a : Answer} {r : ℕ} {after : Areas} {answer′ : List ℕ}
+    → 32 ≤ length answer → Decided q rates list v c looks before a after → r ≡ toldOf a .number → answer′ ≡ given a answer
+    → CallGiven q rates list v c looks before answer r after answer′
+call-given {q} {rates} {list} {v} {c} {looks} {before} {answer} {a} {r} {after} {answer′} h d e f =
     record {
-      answered = answered-given (decidedAnswer q p list c looks) a answer r answer′ h (d .answered) e f;
+      answered = answered-given (decidedAnswer q rates list c looks) a answer r answer′ h (d .answered) e f;
       areas-after = d .areas-after ∙ lent-given answer (decidedAreas q list v c before) before h;
     }

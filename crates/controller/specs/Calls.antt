@@ -4,7 +4,9 @@ use Prim.Native.Nat.{ℕ}
 use mathlib.Core.Path.{_≡_}
 use mathlib.Core.List.{List}
 use Rattle.format.specs.declared.Ruling.{Ruling}
-use Rattle.price.specs.Price.{priceOf}
+use Rattle.price.specs.declared.Rates.{Rates}
+use Rattle.price.specs.declared.Price.{Price}
+use Rattle.price.specs.Price.{ratesOf}
 use Rattle.area.specs.Area.{Areas}
 use Rattle.choice.specs.Choice.{Bit}
 use Rattle.admit.specs.Admit.{partitionRuling}
@@ -13,15 +15,15 @@ use Rattle.least.specs.Partition.{leastOf}
 use Rattle.linear.specs.Linear.{passChoiceOf, passLooksOf}
 use Rattle.controller.specs.Layout.{Answered, lent}
 
--- for the ruling q, the price p, the choice c and the looks it took
-pub record CallGiven (q : Ruling) (p : ℕ) (list v : List ℕ) (c : List Bit) (looks : ℕ) (before : Areas) (answer : List ℕ) (r : ℕ) (after : Areas) (answer′ : List ℕ) : Type 0 where
-  pub answered : Answered (decidedAnswer q p list c looks) answer r answer′
+-- for the ruling q, the rates, the choice c and the looks it took
+pub record CallGiven (q : Ruling) (rates : Rates) (list v : List ℕ) (c : List Bit) (looks : ℕ) (before : Areas) (answer : List ℕ) (r : ℕ) (after : Areas) (answer′ : List ℕ) : Type 0 where
+  pub answered : Answered (decidedAnswer q rates list c looks) answer r answer′
   pub areas-after : after ≡ lent answer (decidedAreas q list v c before) before
 
-abbrev pub PartitionGiven : ℕ → ℕ → List ℕ → List ℕ → List ℕ → Areas → List ℕ → ℕ → Areas → List ℕ → Type 0
-PartitionGiven e f list v st before answer r after answer′ =
-    CallGiven (partitionRuling e f list v st before) (priceOf e f) list v (leastOf e f list) 0 before answer r after answer′
+abbrev pub PartitionGiven : Price → List ℕ → List ℕ → List ℕ → Areas → List ℕ → ℕ → Areas → List ℕ → Type 0
+PartitionGiven price list v st before answer r after answer′ =
+    CallGiven (partitionRuling price list v st before) (ratesOf price) list v (leastOf price list) 0 before answer r after answer′
 
-abbrev pub PassGiven : ℕ → ℕ → List ℕ → List ℕ → List ℕ → Areas → List ℕ → ℕ → Areas → List ℕ → Type 0
-PassGiven e f list v st before answer r after answer′ =
-    CallGiven (partitionRuling e f list v st before) (priceOf e f) list v (passChoiceOf e f list) (passLooksOf e f list) before answer r after answer′
+abbrev pub PassGiven : Price → List ℕ → List ℕ → List ℕ → Areas → List ℕ → ℕ → Areas → List ℕ → Type 0
+PassGiven price list v st before answer r after answer′ =
+    CallGiven (partitionRuling price list v st before) (ratesOf price) list v (passChoiceOf price list) (passLooksOf price list) before answer r after answer′

@@ -10,6 +10,7 @@ ghost use Rattle.rebuild.specs.Rebuild.{checked, rebuildAnswer, rebuildArea};
 ghost use Rattle.controller.specs.Layout.{toldOf, layout, given, Answered, lent};
 ghost use Rattle.controller.specs.Calls.{PartitionGiven, PassGiven};
 use format::Answer;
+use price::Price;
 
 // The numbers of an answer, in the order of the answer area.
 pub struct Told {
@@ -107,12 +108,12 @@ fn give(a: Answer, area: &mut [u8]) -> u32
 // Measure.
 #[no_mangle]
 pub extern "C" fn measure(e: u32, f: u32, list: &[u8], answer: &mut [u8]) -> u32
-    ensures { λ r. ⌜ Answered (measured e f (now (list .entry))) (now (answer .entry)) r (now (answer .exit)) ⌝ }
+    ensures { λ r. ⌜ Answered (measured (record { e = e; f = f }) (now (list .entry))) (now (answer .entry)) r (now (answer .exit)) ⌝ }
 {
     if answer.len() < 32 {
         return 9;
     }
-    give(measure::measure(e, f, list), answer)
+    give(measure::measure(Price { e, f }, list), answer)
 }
 
 // Rebuild.
@@ -146,13 +147,13 @@ pub extern "C" fn partition(
     block: &mut [u8],
     answer: &mut [u8],
 ) -> u32
-    ensures { λ r. ⌜ PartitionGiven e f (now (list .entry)) (now (version .entry)) (now (store .entry)) (areas (now (choice .entry)) (now (area .entry)) (now (block .entry))) (now (answer .entry)) r (areas (now (choice .exit)) (now (area .exit)) (now (block .exit))) (now (answer .exit)) ⌝ }
+    ensures { λ r. ⌜ PartitionGiven (record { e = e; f = f }) (now (list .entry)) (now (version .entry)) (now (store .entry)) (areas (now (choice .entry)) (now (area .entry)) (now (block .entry))) (now (answer .entry)) r (areas (now (choice .exit)) (now (area .exit)) (now (block .exit))) (now (answer .exit)) ⌝ }
 {
     if answer.len() < 32 {
         return 9;
     }
     give(
-        least::partition(e, f, list, version, store, choice, area, block),
+        least::partition(Price { e, f }, list, version, store, choice, area, block),
         answer,
     )
 }
@@ -170,13 +171,13 @@ pub extern "C" fn pass(
     block: &mut [u8],
     answer: &mut [u8],
 ) -> u32
-    ensures { λ r. ⌜ PassGiven e f (now (list .entry)) (now (version .entry)) (now (store .entry)) (areas (now (choice .entry)) (now (area .entry)) (now (block .entry))) (now (answer .entry)) r (areas (now (choice .exit)) (now (area .exit)) (now (block .exit))) (now (answer .exit)) ⌝ }
+    ensures { λ r. ⌜ PassGiven (record { e = e; f = f }) (now (list .entry)) (now (version .entry)) (now (store .entry)) (areas (now (choice .entry)) (now (area .entry)) (now (block .entry))) (now (answer .entry)) r (areas (now (choice .exit)) (now (area .exit)) (now (block .exit))) (now (answer .exit)) ⌝ }
 {
     if answer.len() < 32 {
         return 9;
     }
     give(
-        linear::pass(e, f, list, version, store, choice, area, block),
+        linear::pass(Price { e, f }, list, version, store, choice, area, block),
         answer,
     )
 }

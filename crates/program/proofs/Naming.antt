@@ -5,9 +5,10 @@ use mathlib.Core.Path.{_≡_, sym, _∙_, ap}
 use mathlib.Core.Bool.{true, false}
 use mathlib.Core.List.{List}
 use lib.ListN.{take}
+use Rattle.price.specs.declared.Price.{Price}
 use Rattle.console.specs.declared.Read.{Read}
-use Rattle.console.specs.declared.Price.{Price}
-use Rattle.console.specs.declared.Price.the-variants.{Of, Bad}
+use Rattle.console.specs.declared.PriceFile.{PriceFile}
+use Rattle.console.specs.declared.PriceFile.the-variants.{Holds, Bad}
 use Rattle.report.specs.Text.{badFileText}
 use Rattle.program.specs.Program.{programText}
 use Rattle.program.specs.Run.{fileIn, priceOfFile, textOfFiles, runText, priceName, itemsName, versionName, storeName}
@@ -15,23 +16,23 @@ use Rattle.program.specs.Run.{fileIn, priceOfFile, textOfFiles, runText,
 abbrev textRead : (price items version store : List ℕ) (p l v s : Read) → List ℕ
 textRead price items version store p l v s = runText (fileIn p price) (fileIn l items) (fileIn v version) (fileIn s store)
 
-module _ (price items version store : List ℕ) (p l v s : Read) (r : Price) (read : r ≡ priceOfFile (fileIn p price)) where
-  at-price : (q : Price) → r ≡ q → textRead price items version store p l v s ≡ textOfFiles q (fileIn l items) (fileIn v version) (fileIn s store)
-  at-price q h = ap (λ (x : Price). textOfFiles x (fileIn l items) (fileIn v version) (fileIn s store)) (sym read ∙ h)
+module _ (price items version store : List ℕ) (p l v s : Read) (r : PriceFile) (read : r ≡ priceOfFile (fileIn p price)) where
+  at-price : (q : PriceFile) → r ≡ q → textRead price items version store p l v s ≡ textOfFiles q (fileIn l items) (fileIn v version) (fileIn s store)
+  at-price q h = ap (λ (x : PriceFile). textOfFiles x (fileIn l items) (fileIn v version) (fileIn s store)) (sym read ∙ h)
 
   pub price-named : r ≡ Bad → textRead price items version store p l v s ≡ badFileText priceName
   price-named h = at-price Bad h
 
-  module _ (e f : ℕ) (h : r ≡ Of e f) where
+  module _ (k : Price) (h : r ≡ Holds k) where
     pub items-named : l .bad ≡ true → textRead price items version store p l v s ≡ badFileText itemsName
-    items-named i = at-price (Of e f) h ∙ rw i
+    items-named i = at-price (Holds k) h ∙ rw i
 
     pub version-named : l .bad ≡ false → v .bad ≡ true → textRead price items version store p l v s ≡ badFileText versionName
-    version-named i j = at-price (Of e f) h ∙ rw (i, j)
+    version-named i j = at-price (Holds k) h ∙ rw (i, j)
 
     pub store-named : l .bad ≡ false → v .bad ≡ false → s .bad ≡ true → textRead price items version store p l v s ≡ badFileText storeName
-    store-named i j k = at-price (Of e f) h ∙ rw (i, j, k)
+    store-named i j m = at-price (Holds k) h ∙ rw (i, j, m)
 
     pub none-named : l .bad ≡ false → v .bad ≡ false → s .bad ≡ false
-        → textRead price items version store p l v s ≡ programText e f (take (l .bytes) items) (take (v .bytes) version) (take (s .bytes) store)
-    none-named i j k = at-price (Of e f) h ∙ rw (i, j, k)
+        → textRead price items version store p l v s ≡ programText k (take (l .bytes) items) (take (v .bytes) version) (take (s .bytes) store)
+    none-named i j m = at-price (Holds k) h ∙ rw (i, j, m)

@@ -16,7 +16,8 @@ use Rattle.format.specs.Record.{recordsOf, encode}
 use Rattle.format.proofs.Rulings.{fine-of-accepted, stop-of-refused}
 use Rattle.format.proofs.Rows.{length-recordsOf}
 use Rattle.format.proofs.Encoding.{length-encode, records-encode}
-use Rattle.price.specs.Price.{priceOf}
+use Rattle.price.specs.declared.Price.{Price}
+use Rattle.price.specs.Price.{ratesOf}
 use Rattle.choice.specs.Choice.{Bit, listOf}
 use Rattle.choice.proofs.Lists.{length-list}
 use Rattle.area.specs.Area.{Areas, areas}
@@ -28,27 +29,27 @@ use Rattle.least.specs.Partition.{leastOf, Partitioned}
 use Rattle.report.specs.Text.{reportText}
 use Rattle.program.specs.Program.{textFor, Roomy}
 
-module _ (e f : ℕ) (list v st choice area block text : List ℕ) (roomy : Roomy list v choice area block text) where
-  ruling-is : partitionRuling e f list v st (areas choice area block) ≡ findings e f list v st
+module _ (price : Price) (list v st choice area block text : List ℕ) (roomy : Roomy list v choice area block text) where
+  ruling-is : partitionRuling price list v st (areas choice area block) ≡ findings price list v st
   ruling-is =
-      findings-of-long e f list v st (areas choice area block)
+      findings-of-long price list v st (areas choice area block)
       (areas-of-most list v (length choice) (length area) (length block) (roomy .in-choice) (roomy .in-area) (roomy .in-block))
 
   -- a call that took the choice c in so many looks
   module _ {c : List Bit} {looks : ℕ} {r : Answer} {after : Areas}
-      (d : Decided (partitionRuling e f list v st (areas choice area block)) (priceOf e f) list v c looks (areas choice area block) r after) where
-    pub stop-of-answer : {x : Refusal} → r ≡ Refused x → findings e f list v st ≡ Stop x
-    stop-of-answer {x} h = sym ruling-is ∙ stop-of-refused (partitionRuling e f list v st (areas choice area block)) _ x (sym (d .answered) ∙ h)
+      (d : Decided (partitionRuling price list v st (areas choice area block)) (ratesOf price) list v c looks (areas choice area block) r after) where
+    pub stop-of-answer : {x : Refusal} → r ≡ Refused x → findings price list v st ≡ Stop x
+    stop-of-answer {x} h = sym ruling-is ∙ stop-of-refused (partitionRuling price list v st (areas choice area block)) _ x (sym (d .answered) ∙ h)
 
     module _ {x : Figures} (h : r ≡ Accepted x) where
-      fine : partitionRuling e f list v st (areas choice area block) ≡ Fine
-      fine = fine-of-accepted (partitionRuling e f list v st (areas choice area block)) _ x (sym (d .answered) ∙ h)
+      fine : partitionRuling price list v st (areas choice area block) ≡ Fine
+      fine = fine-of-accepted (partitionRuling price list v st (areas choice area block)) _ x (sym (d .answered) ∙ h)
 
-      fine-of-answer : findings e f list v st ≡ Fine
+      fine-of-answer : findings price list v st ≡ Fine
       fine-of-answer = sym ruling-is ∙ fine
 
-      pub figures-of-answer : x ≡ figures (priceOf e f) (listOf (recordsOf list) c) looks
-      figures-of-answer = let k : Accepted x ≡ Accepted (figures (priceOf e f) (listOf (recordsOf list) c) looks) = sym h ∙ decided-answer d fine in cc
+      pub figures-of-answer : x ≡ figures (ratesOf price) (listOf (recordsOf list) c) looks
+      figures-of-answer = let k : Accepted x ≡ Accepted (figures (ratesOf price) (listOf (recordsOf list) c) looks) = sym h ∙ decided-answer d fine in cc
 
       -- the written list, as it is handed on
       module _ (n : ℕ) (n-is : n ≡ 12 * x .entries) where
@@ -69,10 +70,10 @@ module _ (e f : ℕ) (list v st choice area block text : List ℕ) (roomy : Room
         records-handed-on = ap recordsOf front-is ∙ records-encode (listOf (recordsOf list) c)
 
   -- the text is made of the list that partition wrote
-  pub text-listed : {r : Answer} {after : Areas} → Partitioned e f list v st (areas choice area block) r after
+  pub text-listed : {r : Answer} {after : Areas} → Partitioned price list v st (areas choice area block) r after
       → {x : Figures} (y : Figures) → r ≡ Accepted x → (n : ℕ) → n ≡ 12 * x .entries
-      → textFor (findings e f list v st) (priceOf e f) (recordsOf list) y ≡ reportText (recordsOf (take n (after .list))) x y
+      → textFor (findings price list v st) (ratesOf price) (recordsOf list) y ≡ reportText (recordsOf (take n (after .list))) x y
   text-listed d {x} y h n n-is =
-      ap (λ (q : Ruling). textFor q (priceOf e f) (recordsOf list) y) (fine-of-answer d h)
+      ap (λ (q : Ruling). textFor q (ratesOf price) (recordsOf list) y) (fine-of-answer d h)
       ∙ sym (ap (λ (l : List Record). reportText l x y) (records-handed-on d h n n-is)
-      ∙ ap (λ (z : Figures). reportText (listOf (recordsOf list) (leastOf e f list)) z y) (figures-of-answer d h))
+      ∙ ap (λ (z : Figures). reportText (listOf (recordsOf list) (leastOf price list)) z y) (figures-of-answer d h))

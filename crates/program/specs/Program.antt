@@ -8,7 +8,9 @@ use Rattle.format.specs.declared.Figures.{Figures}
 use Rattle.format.specs.declared.Ruling.{Ruling}
 use Rattle.format.specs.declared.Ruling.the-variants.{Fine, Stop}
 use Rattle.format.specs.Record.{recordsOf}
-use Rattle.price.specs.Price.{priceOf}
+use Rattle.price.specs.declared.Rates.{Rates}
+use Rattle.price.specs.declared.Price.{Price}
+use Rattle.price.specs.Price.{ratesOf}
 use Rattle.choice.specs.Choice.{listOf, least}
 use Rattle.admit.specs.Admit.{findings}
 use Rattle.writer.specs.Decide.{figures}
@@ -16,15 +18,15 @@ use Rattle.pass.specs.Pass.{passChoice, passLooks}
 use Rattle.report.specs.Text.{reportText, refusalText}
 
 -- the least choice's list and figures, with the pass's figures y; or only the refusal
-abbrev pub textFor : Ruling → ℕ → List Record → Figures → List ℕ
-textFor Fine p l y = reportText (listOf l (least p l)) (figures p (listOf l (least p l)) 0) y
-textFor (Stop r) p l y = refusalText r
+abbrev pub textFor : Ruling → Rates → List Record → Figures → List ℕ
+textFor Fine r l y = reportText (listOf l (least r l)) (figures r (listOf l (least r l)) 0) y
+textFor (Stop x) r l y = refusalText x
 
-abbrev pub passFigures : ℕ → List Record → Figures
-passFigures p l = figures p (listOf l (passChoice p l)) (passLooks p l)
+abbrev pub passFigures : Rates → List Record → Figures
+passFigures r l = figures r (listOf l (passChoice r l)) (passLooks r l)
 
-abbrev pub programText : ℕ → ℕ → List ℕ → List ℕ → List ℕ → List ℕ
-programText e f list v st = textFor (findings e f list v st) (priceOf e f) (recordsOf list) (passFigures (priceOf e f) (recordsOf list))
+abbrev pub programText : Price → List ℕ → List ℕ → List ℕ → List ℕ
+programText price list v st = textFor (findings price list v st) (ratesOf price) (recordsOf list) (passFigures (ratesOf price) (recordsOf list))
 
 -- areas that are long enough for choice, list, stored block and text
 pub record Roomy (list v choice area block text : List ℕ) : Type 0 where

@@ -6,8 +6,8 @@ use mathlib.Core.List.{List, [], _∷_}
 use lib.ListN.{length, take}
 use Rattle.io.specs.Counts.{Counts}
 use Rattle.console.specs.declared.Read.{Read}
-use Rattle.console.specs.declared.Price.{Price}
-use Rattle.console.specs.declared.Price.the-variants.{Of, Bad}
+use Rattle.console.specs.declared.PriceFile.{PriceFile}
+use Rattle.console.specs.declared.PriceFile.the-variants.{Holds, Bad}
 use Rattle.console.specs.Price.{priceIn}
 use Rattle.report.specs.Text.{badFileText}
 use Rattle.program.specs.Program.{programText}
@@ -18,7 +18,7 @@ pub data File : Type 0 where
   bad : File
 
 -- a price not of 4 bytes is bad too
-abbrev pub priceOfFile : File → Price
+abbrev pub priceOfFile : File → PriceFile
 priceOfFile (whole s) = priceIn s
 priceOfFile bad = Bad
 
@@ -36,12 +36,12 @@ abbrev pub storeName : List ℕ
 storeName = 115 ∷ 116 ∷ 111 ∷ 114 ∷ 101 ∷ []
 
 -- the first bad file, in the order price, items, version, store, is named; otherwise the text is that of what the files hold
-abbrev pub textOfFiles : Price → File → File → File → List ℕ
+abbrev pub textOfFiles : PriceFile → File → File → File → List ℕ
 textOfFiles Bad items version store = badFileText priceName
-textOfFiles (Of e f) bad version store = badFileText itemsName
-textOfFiles (Of e f) (whole l) bad store = badFileText versionName
-textOfFiles (Of e f) (whole l) (whole v) bad = badFileText storeName
-textOfFiles (Of e f) (whole l) (whole v) (whole s) = programText e f l v s
+textOfFiles (Holds k) bad version store = badFileText itemsName
+textOfFiles (Holds k) (whole l) bad store = badFileText versionName
+textOfFiles (Holds k) (whole l) (whole v) bad = badFileText storeName
+textOfFiles (Holds k) (whole l) (whole v) (whole s) = programText k l v s
 
 abbrev pub runText : File → File → File → File → List ℕ
 runText price items version store = textOfFiles (priceOfFile price) items version store

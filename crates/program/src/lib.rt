@@ -3,21 +3,21 @@
 // The first bad file, in that order, is named, and nothing else is written. Reading and writing are in the crate `console`.
 ghost use mathlib.Core.Path.{_≡_};
 ghost use Rattle.format.specs.Record.{recordsOf};
-ghost use Rattle.price.specs.Price.{priceOf};
+ghost use Rattle.price.specs.Price.{ratesOf};
 ghost use Rattle.report.specs.Text.{Written};
 ghost use Rattle.io.specs.Counts.{Counts};
 ghost use Rattle.admit.specs.Admit.{findings};
 ghost use Rattle.program.specs.Program.{textFor, programText, Roomy};
 ghost use Rattle.program.specs.Run.{fileIn, priceOfFile, runText, Fits, Loaded};
-use console::Price;
+use console::PriceFile;
 use console::Read;
 use format::Answer;
 use format::Figures;
+use price::Price;
 
 // The text, where the pass has the figures y.
 fn listed(
-    e: u32,
-    f: u32,
+    price: Price,
     list: &[u8],
     version: &[u8],
     store: &[u8],
@@ -28,9 +28,9 @@ fn listed(
     y: Figures,
 ) -> usize
     requires { ⌜ Roomy (now list) (now version) (now choice) (now area) (now block) (now text) ⌝ }
-    ensures { λ r. ⌜ Written 0 (textFor (findings e f (now (list .entry)) (now (version .entry)) (now (store .entry))) (priceOf e f) (recordsOf (now (list .entry))) y) (now (text .entry)) r (now (text .exit)) ⌝ }
+    ensures { λ r. ⌜ Written 0 (textFor (findings price (now (list .entry)) (now (version .entry)) (now (store .entry))) (ratesOf price) (recordsOf (now (list .entry))) y) (now (text .entry)) r (now (text .exit)) ⌝ }
 {
-    let answer = least::partition(e, f, list, version, store, choice, area, block);
+    let answer = least::partition(price, list, version, store, choice, area, block);
     match answer {
         Answer::Refused(r) => report::refusal(text, r),
         Answer::Accepted(x) => {
@@ -42,8 +42,7 @@ fn listed(
 
 // The text of the program, and its length. The pass comes first, so that its areas can then be partition's.
 fn text_of(
-    e: u32,
-    f: u32,
+    price: Price,
     list: &[u8],
     version: &[u8],
     store: &[u8],
@@ -53,33 +52,25 @@ fn text_of(
     text: &mut [u8],
 ) -> usize
     requires { ⌜ Roomy (now list) (now version) (now choice) (now area) (now block) (now text) ⌝ }
-    ensures { λ r. ⌜ Written 0 (programText e f (now (list .entry)) (now (version .entry)) (now (store .entry))) (now (text .entry)) r (now (text .exit)) ⌝ }
+    ensures { λ r. ⌜ Written 0 (programText price (now (list .entry)) (now (version .entry)) (now (store .entry))) (now (text .entry)) r (now (text .exit)) ⌝ }
 {
-    let answer = linear::pass(e, f, list, version, store, choice, area, block);
+    let answer = linear::pass(price, list, version, store, choice, area, block);
     match answer {
         Answer::Refused(r) => report::refusal(text, r),
-        Answer::Accepted(y) => listed(e, f, list, version, store, choice, area, block, text, y),
+        Answer::Accepted(y) => listed(price, list, version, store, choice, area, block, text, y),
     }
 }
 
 // The text for files that were all read.
-fn text_of_held(
-    e: u32,
-    f: u32,
-    items: &[u8],
-    version: &[u8],
-    store: &[u8],
-    text: &mut [u8],
-) -> usize
+fn text_of_held(price: Price, items: &[u8], version: &[u8], store: &[u8], text: &mut [u8]) -> usize
     requires { ⌜ Fits (now items) (now version) (now text) ⌝ }
-    ensures { λ r. ⌜ Written 0 (programText e f (now (items .entry)) (now (version .entry)) (now (store .entry))) (now (text .entry)) r (now (text .exit)) ⌝ }
+    ensures { λ r. ⌜ Written 0 (programText price (now (items .entry)) (now (version .entry)) (now (store .entry))) (now (text .entry)) r (now (text .exit)) ⌝ }
 {
     let mut choice = io::large_buffer();
     let mut area = io::large_buffer();
     let mut block = io::large_buffer();
     text_of(
-        e,
-        f,
+        price,
         items,
         version,
         store,
@@ -91,12 +82,12 @@ fn text_of_held(
 }
 
 // The price, by what was read of its file.
-fn price_of(price: &[u8], p: Read) -> Price
+fn price_of(price: &[u8], p: Read) -> PriceFile
     requires { ⌜ Counts (p .bytes) (now price) ⌝ }
     ensures { λ r. ⌜ r ≡ priceOfFile (fileIn p (now (price .entry))) ⌝ }
 {
     if p.bad {
-        return Price::Bad;
+        return PriceFile::Bad;
     }
     let n = p.bytes;
     console::price_in(&price[..n])
@@ -117,8 +108,8 @@ fn text_of_run(
     requires { ⌜ Loaded (now price) (now items) (now version) (now store) p l v s (now text) ⌝ }
     ensures { λ r. ⌜ Written 0 (runText (fileIn p (now (price .entry))) (fileIn l (now (items .entry))) (fileIn v (now (version .entry))) (fileIn s (now (store .entry)))) (now (text .entry)) r (now (text .exit)) ⌝ }
 {
-    let priced = price_of(price, p);
-    let Price::Of(e, f) = priced else {
+    let file = price_of(price, p);
+    let PriceFile::Holds(held) = file else {
         return report::bad_file(text, b"price");
     };
     if l.bad {
@@ -133,7 +124,7 @@ fn text_of_run(
     let i = l.bytes;
     let j = v.bytes;
     let k = s.bytes;
-    text_of_held(e, f, &items[..i], &version[..j], &store[..k], text)
+    text_of_held(held, &items[..i], &version[..j], &store[..k], text)
 }
 
 // The whole program, in the folder where it is run.

@@ -1,5 +1,6 @@
 -- `controller::partition` meets its contract. Assumes nothing.
-use Rattle.price.specs.Price.{priceOf}
+use Rattle.price.specs.declared.Price.{Price}
+use Rattle.price.specs.Price.{ratesOf}
 use Rattle.area.specs.Area.{areas}
 use Rattle.admit.specs.Admit.{partitionRuling}
 use Rattle.least.specs.Partition.{leastOf}
@@ -11,8 +12,9 @@ use Rattle.controller.proofs.partition.Tie as tie
 returns : tie.Need-returns
 returns c =
     let g = c .before .before .before .before .before .before .before .before .args in
+    let price : Price = record { e = g .e; f = g .f } in
     let before = areas (g .choice .now) (g .area .now) (g .block .now) in
-    call-short (partitionRuling (g .e) (g .f) (g .list .now) (g .version .now) (g .store .now) before) (priceOf (g .e) (g .f)) (g .list .now) (g .version .now) (leastOf (g .e) (g .f) (g .list .now)) 0 before (g .answer .now) (c .if1 .taken)
+    call-short (partitionRuling price (g .list .now) (g .version .now) (g .store .now) before) (ratesOf price) (g .list .now) (g .version .now) (leastOf price (g .list .now)) 0 before (g .answer .now) (c .if1 .taken)
 
 partition-requires : tie.Need-partition-requires
 partition-requires c κs = search needs

@@ -1,5 +1,6 @@
 -- `controller::pass` meets its contract. Assumes nothing.
-use Rattle.price.specs.Price.{priceOf}
+use Rattle.price.specs.declared.Price.{Price}
+use Rattle.price.specs.Price.{ratesOf}
 use Rattle.area.specs.Area.{areas}
 use Rattle.admit.specs.Admit.{partitionRuling}
 use Rattle.linear.specs.Linear.{passChoiceOf, passLooksOf}
@@ -11,8 +12,9 @@ use Rattle.controller.proofs.pass.Tie as tie
 returns : tie.Need-returns
 returns c =
     let g = c .before .before .before .before .before .before .before .before .args in
+    let price : Price = record { e = g .e; f = g .f } in
     let before = areas (g .choice .now) (g .area .now) (g .block .now) in
-    call-short (partitionRuling (g .e) (g .f) (g .list .now) (g .version .now) (g .store .now) before) (priceOf (g .e) (g .f)) (g .list .now) (g .version .now) (passChoiceOf (g .e) (g .f) (g .list .now)) (passLooksOf (g .e) (g .f) (g .list .now)) before (g .answer .now) (c .if1 .taken)
+    call-short (partitionRuling price (g .list .now) (g .version .now) (g .store .now) before) (ratesOf price) (g .list .now) (g .version .now) (passChoiceOf price (g .list .now)) (passLooksOf price (g .list .now)) before (g .answer .now) (c .if1 .taken)
 
 pass-requires : tie.Need-pass-requires
 pass-requires c κs = search needs

@@ -7,8 +7,8 @@ use Rattle.program.proofs.text_of_run.Tie as tie
 price-of-requires : tie.Need-price-of-requires
 price-of-requires c κs = search needs
 
-enum-known-priced : tie.Need-enum-known-priced
-enum-known-priced c = search needs
+enum-known-file : tie.Need-enum-known-file
+enum-known-file c = search needs
 
 enum-told : tie.Need-enum-told
 enum-told c = search needs
@@ -24,9 +24,8 @@ same-length c = search needs
 
 returns : tie.Need-returns
 returns c =
-    let at = c .before .before .before .before .before in
-    let g = at .before .before .before .before .before .before .before .before .args in
-    rw (price-named (g .price .now) (g .items .now) (g .version .now) (g .store .now) (g .p) (g .l) (g .v) (g .s) _ (at .before .before .price-of .ensures) (at .enum-told .given .1)) (c .before .before .bad-file .ensures)
+    let g = c .before .before .before .before .before .before .before .before .before .before .before .before .before .args in
+    rw (price-named (g .price .now) (g .items .now) (g .version .now) (g .store .now) (g .p) (g .l) (g .v) (g .s) _ (c .before .before .before .before .before .before .before .price-of .ensures) (c .before .before .before .before .before .enum-told .given .1)) (c .before .before .bad-file .ensures)
 
 slice-aggregate-bad-file-2 : tie.Need-slice-aggregate-bad-file-2
 slice-aggregate-bad-file-2 c = search needs
@@ -39,9 +38,8 @@ same-length-2 c = search needs
 
 returns-2 : tie.Need-returns-2
 returns-2 c =
-    let at = c .before .before .before .before .before in
-    let g = at .before .before .before .before .before .before .before .before .before .before .args in
-    rw (items-named (g .price .now) (g .items .now) (g .version .now) (g .store .now) (g .p) (g .l) (g .v) (g .s) _ (at .before .before .before .before .price-of .ensures) _ _ (at .before .before .priced .given .1) (at .if1 .taken)) (c .before .before .bad-file2 .ensures)
+    let g = c .before .before .before .before .before .before .before .before .before .before .before .before .before .before .before .args in
+    rw (items-named (g .price .now) (g .items .now) (g .version .now) (g .store .now) (g .p) (g .l) (g .v) (g .s) _ (c .before .before .before .before .before .before .before .before .before .price-of .ensures) _ (c .before .before .before .before .before .before .before .file .given .1) (c .before .before .before .before .before .if1 .taken)) (c .before .before .bad-file2 .ensures)
 
 slice-aggregate-bad-file-3 : tie.Need-slice-aggregate-bad-file-3
 slice-aggregate-bad-file-3 c = search needs
@@ -54,9 +52,8 @@ same-length-3 c = search needs
 
 returns-3 : tie.Need-returns-3
 returns-3 c =
-    let at = c .before .before .before .before .before in
-    let g = at .before .before .before .before .before .before .before .before .before .before .before .args in
-    rw (version-named (g .price .now) (g .items .now) (g .version .now) (g .store .now) (g .p) (g .l) (g .v) (g .s) _ (at .before .before .before .before .before .price-of .ensures) _ _ (at .before .before .before .priced .given .1) (at .before .if1 .left) (at .if2 .taken)) (c .before .before .bad-file3 .ensures)
+    let g = c .before .before .before .before .before .before .before .before .before .before .before .before .before .before .before .before .args in
+    rw (version-named (g .price .now) (g .items .now) (g .version .now) (g .store .now) (g .p) (g .l) (g .v) (g .s) _ (c .before .before .before .before .before .before .before .before .before .before .price-of .ensures) _ (c .before .before .before .before .before .before .before .before .file .given .1) (c .before .before .before .before .before .before .if1 .left) (c .before .before .before .before .before .if2 .taken)) (c .before .before .bad-file3 .ensures)
 
 slice-aggregate-bad-file-4 : tie.Need-slice-aggregate-bad-file-4
 slice-aggregate-bad-file-4 c = search needs
@@ -69,9 +66,8 @@ same-length-4 c = search needs
 
 returns-4 : tie.Need-returns-4
 returns-4 c =
-    let at = c .before .before .before .before .before in
-    let g = at .before .before .before .before .before .before .before .before .before .before .before .before .args in
-    rw (store-named (g .price .now) (g .items .now) (g .version .now) (g .store .now) (g .p) (g .l) (g .v) (g .s) _ (at .before .before .before .before .before .before .price-of .ensures) _ _ (at .before .before .before .before .priced .given .1) (at .before .before .if1 .left) (at .before .if2 .left) (at .if3 .taken)) (c .before .before .bad-file4 .ensures)
+    let g = c .before .before .before .before .before .before .before .before .before .before .before .before .before .before .before .before .before .args in
+    rw (store-named (g .price .now) (g .items .now) (g .version .now) (g .store .now) (g .p) (g .l) (g .v) (g .s) _ (c .before .before .before .before .before .before .before .before .before .before .before .price-of .ensures) _ (c .before .before .before .before .before .before .before .before .before .file .given .1) (c .before .before .before .before .before .before .before .if1 .left) (c .before .before .before .before .before .before .if2 .left) (c .before .before .before .before .before .if3 .taken)) (c .before .before .bad-file4 .ensures)
 
 slice-aggregate-text-of-held : tie.Need-slice-aggregate-text-of-held
 slice-aggregate-text-of-held c = search needs
@@ -90,16 +86,15 @@ same-length-5 c = search needs
 
 returns-5 : tie.Need-returns-5
 returns-5 c =
-    let at = c .before .before .before .before .before .before .before in
-    let g = at .before .before .before .before .before .before .before .before .before .before .before .before .args in
-    rw (none-named (g .price .now) (g .items .now) (g .version .now) (g .store .now) (g .p) (g .l) (g .v) (g .s) _ (at .before .before .before .before .before .before .price-of .ensures) _ _ (at .before .before .before .before .priced .given .1) (at .before .before .if1 .left) (at .before .if2 .left) (at .if3 .left)) (c .before .before .text-of-held .ensures)
+    let g = c .before .before .before .before .before .before .before .before .before .before .before .before .before .before .before .before .before .before .before .args in
+    rw (none-named (g .price .now) (g .items .now) (g .version .now) (g .store .now) (g .p) (g .l) (g .v) (g .s) _ (c .before .before .before .before .before .before .before .before .before .before .before .before .before .price-of .ensures) _ (c .before .before .before .before .before .before .before .before .before .before .before .file .given .1) (c .before .before .before .before .before .before .before .before .before .if1 .left) (c .before .before .before .before .before .before .before .before .if2 .left) (c .before .before .before .before .before .before .before .if3 .left)) (c .before .before .text-of-held .ensures)
 
 pub text-of-run-spec : {M : Type 1} → statement M
 text-of-run-spec =
     tie.close
     (tie.spec
     price-of-requires
-    enum-known-priced
+    enum-known-file
     enum-told
     slice-aggregate-bad-file
     bad-file-requires
