@@ -1,4 +1,5 @@
 // The cases of measure: every answer against what is worked out by hand from document 01.
+use price::Price;
 use watch::Values;
 use watch::text;
 
@@ -6,7 +7,7 @@ use watch::text;
 fn measured(name: &[u8], e: u32, f: u32, list: &[u8], want: Values) {
     watch::say(b"measure ");
     watch::say(name);
-    let fine = watch::answer_is(measure::measure(e, f, list), want);
+    let fine = watch::answer_is(measure::measure(Price { e, f }, list), want);
     watch::end_line(fine);
 }
 

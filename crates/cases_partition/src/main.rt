@@ -5,6 +5,7 @@
 // on in the store where the one before it ended.
 use format::Answer;
 use format::Fault;
+use price::Price;
 use watch::Values;
 use watch::text;
 
@@ -73,8 +74,7 @@ fn called(
         return format::refused(Fault::TooLong);
     }
     least::partition(
-        ask.e,
-        ask.f,
+        Price { e: ask.e, f: ask.f },
         list,
         version,
         store,
