@@ -2,7 +2,6 @@
 -- Assumes nothing.
 use Prim.Native.Nat.{ℕ, _+_, _*_, _≤_}
 use native.Mathlib.Omega.{arith}
-use native.Mathlib.Nat.{add-assoc}
 use mathlib.Core.Path.{_≡_, refl, sym, _∙_, ap}
 use mathlib.Core.Logic.{inl, inr}
 use mathlib.Core.List.{List, [], _∷_}
@@ -11,7 +10,9 @@ use Rattle.format.specs.declared.Record.the-variants.{New, Match}
 use Rattle.format.specs.Meaning.{sizeOf}
 use Rattle.price.specs.declared.Rates.{Rates}
 use Rattle.price.specs.Price.{cost}
-use Rattle.choice.specs.Choice.{Bit, keep, store, freedom, May, IsChoice, fuse, join, chosenRecord, listOf, costOf, least, Early, IsLeast, keepAll}
+use Rattle.join.specs.Join.{join}
+use Rattle.join.proofs.Joining.{join-match, join-new}
+use Rattle.choice.specs.Choice.{Bit, keep, store, freedom, May, IsChoice, chosenRecord, listOf, costOf, least, Early, IsLeast, keepAll}
 use Rattle.choice.proofs.Path.{Beats, walk, best, pick, first, walk-pick, pick-is-first, pick-fits, pick-beats, pick-first, first-fits, choices-cong, le-beats, early-antisym}
 
 abbrev pub after : Record → Bit → Bit
@@ -23,20 +24,15 @@ step rates s r keep = rates .kept .0
 step rates keep r store = rates .fresh .0 + rates .byte .0 * sizeOf r
 step rates store r store = rates .byte .0 * sizeOf r
 
-pub fuse-fuse : (s t : ℕ) (l : List Record) → fuse s (fuse t l) ≡ fuse (s + t) l
-fuse-fuse s t [] = refl
-fuse-fuse s t (New u ∷ l) = ap (λ (n : ℕ). New n ∷ l) (sym (add-assoc s t u))
-fuse-fuse s t (Match u a ∷ l) = refl
-
 pub keep-store : {A : Type 0} → keep ≡ store → A
 keep-store e = absurd (let z : _≡_ {A = ℕ} 0 1 = cc in omega arith)
 
 module _ (rates : Rates) where
   abbrev Spent : List Record → List Bit → Type 0
-  Spent rs c = (cost rates (listOf rs c) ≡ walk after (step rates) rs keep c) × ((t : ℕ) → cost rates (fuse t (listOf rs c)) ≡ rates .fresh .0 + rates .byte .0 * t + walk after (step rates) rs store c)
+  Spent rs c = (cost rates (listOf rs c) ≡ walk after (step rates) rs keep c) × ((t : ℕ) → cost rates (join (New t) (listOf rs c)) ≡ rates .fresh .0 + rates .byte .0 * t + walk after (step rates) rs store c)
 
   stores : (r : Record) (rs : List Record) (c : List Bit) → Spent rs c → Spent (r ∷ rs) (store ∷ c)
-  stores r rs c ih = (omega (arith, ih .1 (sizeOf r)), λ t. rw fuse-fuse (omega (arith, ih .1 (t + sizeOf r))))
+  stores r rs c ih = (omega (arith, ih .1 (sizeOf r)), λ t. rw join-new (omega (arith, ih .1 (t + sizeOf r))))
 
   pub spent : (rs : List Record) (c : List Bit) → IsChoice rs c → Spent rs c
   spent [] [] h = (omega arith, λ t. omega arith)
@@ -47,7 +43,7 @@ module _ (rates : Rates) where
   spent (Match s a ∷ rs) (keep ∷ c) h = keeps (spent rs c (h .1))
     where
       keeps : Spent rs c → Spent (Match s a ∷ rs) (keep ∷ c)
-      keeps ih = (omega (arith, ih .0), λ t. omega (arith, ih .0))
+      keeps ih = rw (join-match s a (listOf rs c)) (omega (arith, ih .0), λ t. omega (arith, ih .0))
   spent (Match s a ∷ rs) (store ∷ c) h = stores (Match s a) rs c (spent rs c (h .1))
 
   pub least-pick : (rs : List Record) → least rates rs ≡ pick after (step rates) rs keep
@@ -91,23 +87,30 @@ least-alone r rs c h =
 abbrev Lifted : List Record → List Record → Type 0
 Lifted rs l = (d : List Bit) → IsChoice l d → (e : List Bit) × IsChoice rs e × (listOf rs e ≡ listOf l d)
 
-lift-store : (r : Record) (rs l : List Record) → May (freedom r) store → Lifted rs l → Lifted (r ∷ rs) (fuse (sizeOf r) l)
+lift-store : (r : Record) (rs l : List Record) → May (freedom r) store → Lifted rs l → Lifted (r ∷ rs) (join (New (sizeOf r)) l)
 lift-store r rs l m f = go l f
   where
     s : ℕ
     s = sizeOf r
 
-    go : (l : List Record) → Lifted rs l → Lifted (r ∷ rs) (fuse s l)
+    go : (l : List Record) → Lifted rs l → Lifted (r ∷ rs) (join (New s) l)
     go [] f [] k = absurd k
     go [] f (keep ∷ d) k = keep-store (k .0)
-    go [] f (store ∷ []) k = let (e, h, q) = f [] tt in (store ∷ e, (m, h), ap (fuse s) q)
+    go [] f (store ∷ []) k = let (e, h, q) = f [] tt in (store ∷ e, (m, h), ap (join (New s)) q)
     go [] f (store ∷ b ∷ d) k = absurd (k .1)
     go (New t ∷ l) f [] k = absurd k
     go (New t ∷ l) f (keep ∷ d) k = keep-store (k .0)
-    go (New t ∷ l) f (store ∷ d) k = let (e, h, q) = f (store ∷ d) k in (store ∷ e, (m, h), ap (fuse s) q ∙ fuse-fuse s t (listOf l d))
+    go (New t ∷ l) f (store ∷ d) k = let (e, h, q) = f (store ∷ d) k in (store ∷ e, (m, h), ap (join (New s)) q ∙ join-new s t (listOf l d))
     go (Match t a ∷ l) f [] k = absurd k
     go (Match t a ∷ l) f (keep ∷ d) k = keep-store (k .0)
-    go (Match t a ∷ l) f (store ∷ d) k = let (e, h, q) = f d (k .1) in (store ∷ e, (m, h), ap (fuse s) q)
+    go (Match t a ∷ l) f (store ∷ d) k = let (e, h, q) = f d (k .1) in (store ∷ e, (m, h), ap (join (New s)) q)
+
+lift-keep : (s a : ℕ) (rs l : List Record) → Lifted rs l → Lifted (Match s a ∷ rs) (join (Match s a) l)
+lift-keep s a rs l f = rw (join-match s a l) go
+  where
+    go : Lifted (Match s a ∷ rs) (Match s a ∷ l)
+    go [] k = absurd k
+    go (b ∷ d) k = let (e, h, q) = f d (k .1) in (b ∷ e, (tt, h), ap (join (chosenRecord b (Match s a))) q)
 
 lift : (rs : List Record) (c : List Bit) → IsChoice rs c → Lifted rs (listOf rs c)
 lift [] c h [] k = ([], tt, refl)
@@ -115,23 +118,22 @@ lift [] c h (b ∷ d) k = absurd k
 lift (r ∷ rs) [] h d k = absurd h
 lift (New s ∷ rs) (keep ∷ c) h d k = keep-store (h .0)
 lift (New s ∷ rs) (store ∷ c) h d k = lift-store (New s) rs (listOf rs c) refl (lift rs c (h .1)) d k
-lift (Match s a ∷ rs) (keep ∷ c) h [] k = absurd k
-lift (Match s a ∷ rs) (keep ∷ c) h (b ∷ d) k = let (e, f, q) = lift rs c (h .1) d (k .1) in (b ∷ e, (tt, f), ap (join (chosenRecord b (Match s a))) q)
+lift (Match s a ∷ rs) (keep ∷ c) h d k = lift-keep s a rs (listOf rs c) (lift rs c (h .1)) d k
 lift (Match s a ∷ rs) (store ∷ c) h d k = lift-store (Match s a) rs (listOf rs c) tt (lift rs c (h .1)) d k
 
-first-fuse : (s : ℕ) (l : List Record) → listOf l (first l) ≡ l → listOf (fuse s l) (first (fuse s l)) ≡ fuse s l
-first-fuse s [] e = refl
-first-fuse s (New t ∷ l) e = sym (fuse-fuse s t (listOf l (first l))) ∙ ap (fuse s) e
-first-fuse s (Match t a ∷ l) e = ap (fuse s) e
+first-new : (s : ℕ) (l : List Record) → listOf l (first l) ≡ l → listOf (join (New s) l) (first (join (New s) l)) ≡ join (New s) l
+first-new s [] e = refl
+first-new s (New t ∷ l) e = sym (join-new s t (listOf l (first l))) ∙ ap (join (New s)) e
+first-new s (Match t a ∷ l) e = ap (join (New s)) e
 
 -- the list of a choice is the list of its own foremost choice
 first-list : (rs : List Record) (c : List Bit) → IsChoice rs c → listOf (listOf rs c) (first (listOf rs c)) ≡ listOf rs c
 first-list [] c h = refl
 first-list (r ∷ rs) [] h = absurd h
 first-list (New s ∷ rs) (keep ∷ c) h = keep-store (h .0)
-first-list (New s ∷ rs) (store ∷ c) h = first-fuse s (listOf rs c) (first-list rs c (h .1))
-first-list (Match s a ∷ rs) (keep ∷ c) h = ap (λ (l : List Record). Match s a ∷ l) (first-list rs c (h .1))
-first-list (Match s a ∷ rs) (store ∷ c) h = first-fuse s (listOf rs c) (first-list rs c (h .1))
+first-list (New s ∷ rs) (store ∷ c) h = first-new s (listOf rs c) (first-list rs c (h .1))
+first-list (Match s a ∷ rs) (keep ∷ c) h = rw (join-match s a (listOf rs c)) (join-match s a (listOf (listOf rs c) (first (listOf rs c))) ∙ ap (λ (l : List Record). Match s a ∷ l) (first-list rs c (h .1)))
+first-list (Match s a ∷ rs) (store ∷ c) h = first-new s (listOf rs c) (first-list rs c (h .1))
 
 pub again : (rates : Rates) (rs : List Record) → least rates (listOf rs (least rates rs)) ≡ first (listOf rs (least rates rs))
 again rates rs = least-pick rates l ∙ pick-first after (step rates) l keep (omega (arith, cheap, met, led, walk-pick after (step rates) l keep))

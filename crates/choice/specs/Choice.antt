@@ -12,6 +12,7 @@ use Rattle.format.specs.Record.{from}
 use Rattle.format.specs.Meaning.{sizeOf}
 use Rattle.price.specs.declared.Rates.{Rates}
 use Rattle.price.specs.Price.{cost}
+use Rattle.join.specs.Join.{tidy}
 
 -- 0: kept as match; 1: new
 pub data Bit : Type 0 where
@@ -89,23 +90,7 @@ chosen [] c = []
 chosen (r ∷ rs) [] = []
 chosen (r ∷ rs) (b ∷ c) = chosenRecord b r ∷ chosen rs c
 
--- s new bytes before a list: a new record at its head takes them in
-abbrev pub fuse : ℕ → List Record → List Record
-fuse s [] = New s ∷ []
-fuse s (New t ∷ l) = New (s + t) ∷ l
-fuse s (Match t a ∷ l) = New s ∷ Match t a ∷ l
-
--- a record before a list; matches that follow each other in the store still take one entry each
-abbrev pub join : Record → List Record → List Record
-join (New s) l = fuse s l
-join (Match s a) l = Match s a ∷ l
-
--- each longest run of new records becomes one
-abbrev pub tidy : List Record → List Record
-tidy [] = []
-tidy (r ∷ l) = join r (tidy l)
-
--- the list of a choice
+-- the list of a choice: each longest run of 1s becomes one new record, each 0 keeps its record as it was
 abbrev pub listOf : List Record → List Bit → List Record
 listOf rs c = tidy (chosen rs c)
 

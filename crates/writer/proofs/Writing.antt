@@ -18,12 +18,15 @@ use Rattle.format.proofs.Encoding.{encode-append, length-bytes, length-encode}
 use Rattle.area.specs.Area.{pasted}
 use Rattle.area.proofs.Pasting.{pasted-none}
 use Rattle.area.proofs.Filling.{Filling, filling-start, filling-put, filling-end, filling-out, filling-room}
-use Rattle.choice.specs.Choice.{bitAt, bitsOf, join, tidy, chosen, chosenRecord}
-use Rattle.choice.proofs.Lists.{size-chosen, block-fuse, whole-list, length-list}
-use Rattle.choice.proofs.Least.{fuse-fuse}
-use Rattle.writer.specs.declared.Open.{Open}
-use Rattle.writer.specs.declared.Open.the-variants.{No, One}
-use Rattle.writer.specs.Write.{listIn, blockIn, jointOf, pending, openSize, flushed, opened, Emits, ListReady, ListWritten, BlockReady, BlockWritten, Writable}
+use Rattle.join.specs.declared.Open.{Open}
+use Rattle.join.specs.declared.Open.the-variants.{No, One}
+use Rattle.join.specs.Join.{join, tidy}
+use Rattle.join.specs.Emit.{pending, openSize, flushed, opened}
+use Rattle.join.proofs.Joining.{join-match, block-join}
+use Rattle.join.proofs.Emitting.{held, held-none, held-join, open-size}
+use Rattle.choice.specs.Choice.{bitAt, bitsOf, chosen, chosenRecord}
+use Rattle.choice.proofs.Lists.{size-chosen, whole-list, length-list}
+use Rattle.writer.specs.Write.{listIn, blockIn, ListReady, ListWritten, BlockReady, BlockWritten, Writable}
 
 -- the list of the choice from record i on, of n
 abbrev pub listFrom : List ℕ → List ℕ → ℕ → ℕ → List Record
@@ -33,58 +36,6 @@ listFrom-all : (list choice : List ℕ) → listIn list choice ≡ listFrom list
 listFrom-all list choice =
     let e : length list / 12 ≡ length list / 12 - 0 = omega arith in
     ap (λ (m : ℕ). tidy (chosen (records (from (rowAt list) 0 m)) (from (bitAt choice) 0 m))) e
-
--- the open record before a list
-abbrev pub held : Open → List Record → List Record
-held No l = l
-held (One r) l = join r l
-
-held-none : (o : Open) → held o [] ≡ pending o
-held-none No = refl
-held-none (One (New s)) = refl
-held-none (One (Match s a)) = refl
-
-held-join : (o : Open) (r : Record) (l : List Record) → held o (join r l) ≡ flushed o r ++ held (opened o r) l
-held-join No r l = refl
-held-join (One (New s)) (New t) l = fuse-fuse s t l
-held-join (One (New s)) (Match t a) l = refl
-held-join (One (Match s a)) r l = refl
-
-open-size : (o : Open) (r : Record) → openSize (opened o r) ≤ openSize o + sizeOf r
-open-size No r = omega arith
-open-size (One (New s)) (New t) = omega arith
-open-size (One (New s)) (Match t a) = omega arith
-open-size (One (Match s a)) r = omega arith
-
-block-join : (r : Record) (l : List Record) (v : List ℕ) → blockOf (join r l) v ≡ blockOf (r ∷ l) v
-block-join (New s) l v = block-fuse s l v
-block-join (Match s a) l v = refl
-
--- ---- one record taken in: none is open, the two join, or the open one is written
-module _ (area : List ℕ) (out : ℕ) (o : Open) (r : Record) where
-  pub emits-first : o ≡ No → Emits area out o r (record { out = out; last = One r }) area
-  emits-first e = rw e (record { out-is = omega arith; last-is = refl; area-after = pasted-none out area })
-
-  module _ (q : Record) (e : o ≡ One q) (j : Open) (i : j ≡ jointOf q r) where
-    pub emits-joint : (b : Record) → j ≡ One b → Emits area out o r (record { out = out; last = j }) area
-    emits-joint b k =
-        let m : jointOf q r ≡ One b = sym i ∙ k in
-        let w : encode (flushed o r) ≡ [] = rw (e, m) in
-        let v : opened o r ≡ One b = rw (e, m) in
-        record { out-is = rw w (omega arith); last-is = k ∙ sym v; area-after = rw w (pasted-none out area) }
-
-    module _ (k : j ≡ No) where
-      one : flushed o r ≡ q ∷ []
-      one = let m : jointOf q r ≡ No = sym i ∙ k in rw (e, m)
-
-      pub emits-room : out + length (encode (flushed o r)) ≤ length area → out + 12 ≤ length area
-      emits-room h = let m : length (encode (flushed o r)) ≡ 12 = ap (λ (l : List Record). length (encode l)) one ∙ rw (append-nil (bytesOf q)) (length-bytes q) in omega arith
-
-      pub emits-written : (after : List ℕ) → after ≡ pasted out (bytesOf q) area → Emits area out o r (record { out = out + 12; last = One r }) after
-      emits-written after f =
-          let m : jointOf q r ≡ No = sym i ∙ k in
-          let w : encode (flushed o r) ≡ bytesOf q = ap encode one ∙ append-nil (bytesOf q) in
-          record { out-is = rw (w, length-bytes q); last-is = rw (e, m); area-after = rw w f }
 
 module _ (list choice : List ℕ) (n i : ℕ) (r : Record) (is : r ≡ chosenRecord (bitAt choice i) (recordOf (rowAt list i))) (h : i < n) where
   list-split : listFrom list choice n i ≡ join r (listFrom list choice n (i + 1))
@@ -174,7 +125,7 @@ module _ (list choice v block₀ : List ℕ) (ready : BlockReady list choice v b
       storing-match s a at′ m e =
           let f : at′ ≡ at + s = e ∙ ap (λ (x : Record). at + sizeOf x) m in
           record {
-            filling = rw (f, ← drop-drop s at v) (rw (list-split list choice n i r is h, m) at (g .filling));
+            filling = rw (f, ← drop-drop s at v) (rw (list-split list choice n i r is h, m, block-join (Match s a) (listFrom list choice n (i + 1)) (drop at v)) at (g .filling));
             sizes = omega (arith, g .sizes, whole-split list choice n i r is h);
           }
 
@@ -183,7 +134,7 @@ module _ (list choice v block₀ : List ℕ) (ready : BlockReady list choice v b
         part-length = length-take-le s (drop at v) (omega (arith, length-drop at v, storing-size, ap sizeOf m))
 
         to-store : Filling (blockIn list choice v) block₀ block out (take s (drop at v) ++ blockOf (listFrom list choice n (i + 1)) (drop (at + s) v))
-        to-store = rw (← drop-drop s at v) (rw (list-split list choice n i r is h, m, block-fuse s (listFrom list choice n (i + 1)) (drop at v)) at (g .filling))
+        to-store = rw (← drop-drop s at v) (rw (list-split list choice n i r is h, m, block-join (New s) (listFrom list choice n (i + 1)) (drop at v)) at (g .filling))
 
         pub storing-room : out + s ≤ length block
         storing-room = omega (arith, filling-room to-store (ready .room), length-append (take s (drop at v)) (blockOf (listFrom list choice n (i + 1)) (drop (at + s) v)), part-length)

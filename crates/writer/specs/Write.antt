@@ -11,9 +11,6 @@ use Rattle.format.specs.Record.{word, encode, recordsOf}
 use Rattle.format.specs.Meaning.{sizeOf, whole, blockOf}
 use Rattle.area.specs.Area.{pasted, over}
 use Rattle.choice.specs.Choice.{bitsOf, listOf}
-use Rattle.writer.specs.declared.Emitted.{Emitted}
-use Rattle.writer.specs.declared.Open.{Open}
-use Rattle.writer.specs.declared.Open.the-variants.{No, One}
 
 -- the list that a choice area makes of a list, and its stored block
 abbrev pub listIn : List ℕ → List ℕ → List Record
@@ -21,47 +18,6 @@ listIn list choice = listOf (recordsOf list) (bitsOf (length list / 12) choice)
 
 abbrev pub blockIn : List ℕ → List ℕ → List ℕ → List ℕ
 blockIn list choice version = blockOf (listIn list choice) version
-
--- the fields of a record as 12 bytes
-abbrev pub fields : ℕ → ℕ → ℕ → List ℕ
-fields kind s a = kind ∷ 0 ∷ 0 ∷ 0 ∷ word s ++ word a
-
--- two neighbours as one, where they join
-abbrev pub jointOf : Record → Record → Open
-jointOf (New s) (New t) = One (New (s + t))
-jointOf (New s) (Match t a) = No
-jointOf (Match s a) r = No
-
--- what is still to be written of an open record
-abbrev pub pending : Open → List Record
-pending No = []
-pending (One r) = r ∷ []
-
-abbrev pub openSize : Open → ℕ
-openSize No = 0
-openSize (One r) = sizeOf r
-
--- a record r taken in by the open one: what is written, and what is open then
-abbrev pub unless : Open → List Record → List Record
-unless No l = l
-unless (One r) l = []
-
-abbrev pub orElse : Open → Record → Open
-orElse No r = One r
-orElse (One q) r = One q
-
-abbrev pub flushed : Open → Record → List Record
-flushed No r = []
-flushed (One o) r = unless (jointOf o r) (o ∷ [])
-
-abbrev pub opened : Open → Record → Open
-opened No r = One r
-opened (One o) r = orElse (jointOf o r) r
-
-pub record Emits (area : List ℕ) (out : ℕ) (last : Open) (r : Record) (e : Emitted) (after : List ℕ) : Type 0 where
-  pub out-is : e .out ≡ out + length (encode (flushed last r))
-  pub last-is : e .last ≡ opened last r
-  pub area-after : after ≡ pasted out (encode (flushed last r)) area
 
 -- a byte of choice for each record, sizes within a version's greatest length, and room
 pub record ListReady (list choice area : List ℕ) : Type 0 where

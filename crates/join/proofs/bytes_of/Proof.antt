@@ -1,8 +1,8 @@
--- `writer::bytes_of` meets its contract. Assumes nothing.
+-- `join::bytes_of` meets its contract. Assumes nothing.
 use mathlib.Core.Path.{_∙_}
 use borrow.Author.Needs.{needs}
-use Rattle.writer.proofs.bytes_of.Statement.{statement}
-use Rattle.writer.proofs.bytes_of.Tie as tie
+use Rattle.join.proofs.bytes_of.Statement.{statement}
+use Rattle.join.proofs.bytes_of.Tie as tie
 
 enum-known-item : tie.Need-enum-known-item
 enum-known-item c = search needs

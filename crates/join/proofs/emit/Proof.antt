@@ -1,9 +1,9 @@
--- `writer::emit` meets its contract: no record is open, the two join, or the open one is written. Assumes nothing.
+-- `join::emit` meets its contract: no record is open, the two join, or the open one is written. Assumes nothing.
 use native.Mathlib.Omega.{arith}
-use Rattle.writer.proofs.Writing.{emits-first, emits-joint, emits-room, emits-written}
+use Rattle.join.proofs.Emitting.{emits-first, emits-joint, emits-room, emits-written}
 use borrow.Author.Needs.{needs}
-use Rattle.writer.proofs.emit.Statement.{statement}
-use Rattle.writer.proofs.emit.Tie as tie
+use Rattle.join.proofs.emit.Statement.{statement}
+use Rattle.join.proofs.emit.Tie as tie
 
 enum-known-last : tie.Need-enum-known-last
 enum-known-last c = search needs

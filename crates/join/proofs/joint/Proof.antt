@@ -1,8 +1,8 @@
--- `writer::joint` meets its contract, by the two kinds. Assumes nothing.
+-- `join::joint` meets its contract, by the two kinds. Assumes nothing.
 use native.Mathlib.Omega.{arith}
 use borrow.Author.Needs.{needs}
-use Rattle.writer.proofs.joint.Statement.{statement}
-use Rattle.writer.proofs.joint.Tie as tie
+use Rattle.join.proofs.joint.Statement.{statement}
+use Rattle.join.proofs.joint.Tie as tie
 
 enum-known-first : tie.Need-enum-known-first
 enum-known-first c = search needs

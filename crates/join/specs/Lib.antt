@@ -1,0 +1,2 @@
+pub mod Join
+pub mod Emit

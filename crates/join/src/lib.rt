@@ -1,0 +1,110 @@
+// Which neighbouring records join, and the writing of a list with one record held open, so that the next may join it.
+//
+// `joint` alone says what joins; what is written and what is held open follows from it.
+ghost use mathlib.Core.Path.{_≡_};
+ghost use Prim.Native.Nat.{_+_, _≤_, _<_};
+ghost use lib.ListN.{length};
+ghost use Rattle.format.specs.Record.{bytesOf, encode};
+ghost use Rattle.area.specs.Area.{pasted};
+ghost use Rattle.join.specs.Join.{jointOf};
+ghost use Rattle.join.specs.Emit.{fields, pending, openSize, flushed, Emits};
+use format::Record;
+
+// A record that is not written yet, as the next may join it.
+pub enum Open {
+    No,
+    One(Record),
+}
+
+pub struct Emitted {
+    pub out: usize,
+    pub last: Open,
+}
+
+// The 12 bytes of a record's fields.
+fn record_bytes(kind: u8, size: u32, address: u32) -> [u8; 12]
+    ensures { λ b. ⌜ b ≡ fields kind size address ⌝ }
+{
+    [
+        kind,
+        0,
+        0,
+        0,
+        (size % 256) as u8,
+        (size / 256 % 256) as u8,
+        (size / 65536 % 256) as u8,
+        (size / 16777216) as u8,
+        (address % 256) as u8,
+        (address / 256 % 256) as u8,
+        (address / 65536 % 256) as u8,
+        (address / 16777216) as u8,
+    ]
+}
+
+// The 12 bytes of a record.
+fn bytes_of(item: Record) -> [u8; 12]
+    ensures { λ b. ⌜ b ≡ bytesOf item ⌝ }
+{
+    match item {
+        Record::New(size) => record_bytes(0, size, 0),
+        Record::Match(size, address) => record_bytes(1, size, address),
+    }
+}
+
+// Writes a record over the area from `out` on.
+fn put_record(area: &mut [u8], out: usize, item: Record)
+    requires { ⌜ out + 12 ≤ length (now area) ⌝ }
+    ensures { λ _. ⌜ now (area .exit) ≡ pasted out (bytesOf item) (now (area .entry)) ⌝ }
+{
+    let b = bytes_of(item);
+    area::put(area, out, &b);
+}
+
+// Two neighbours as one, where they join: new records do.
+fn joint(first: Record, second: Record) -> Open
+    requires { ⌜ openSize (Open.One first) + openSize (Open.One second) < 4294967296 ⌝ }
+    ensures { λ r. ⌜ r ≡ jointOf first second ⌝ }
+{
+    let Record::New(size) = first else {
+        return Open::No;
+    };
+    let Record::New(more) = second else {
+        return Open::No;
+    };
+    Open::One(Record::New(size + more))
+}
+
+// Takes in the next record: it joins the open one, or the open one is written.
+pub fn emit(area: &mut [u8], out: usize, last: Open, item: Record) -> Emitted
+    requires { ⌜ out + length (encode (flushed last item)) ≤ length (now area) ⌝ }
+    requires { ⌜ openSize last + openSize (Open.One item) < 4294967296 ⌝ }
+    ensures { λ r. ⌜ Emits (now (area .entry)) out last item r (now (area .exit)) ⌝ }
+{
+    let Open::One(held) = last else {
+        return Emitted {
+            out,
+            last: Open::One(item),
+        };
+    };
+    let both = joint(held, item);
+    let Open::One(_) = both else {
+        put_record(area, out, held);
+        return Emitted {
+            out: out + 12,
+            last: Open::One(item),
+        };
+    };
+    Emitted { out, last: both }
+}
+
+// Writes the open record, if there is one, and gives the place after it.
+pub fn flush(area: &mut [u8], out: usize, last: Open) -> usize
+    requires { ⌜ out + length (encode (pending last)) ≤ length (now area) ⌝ }
+    ensures { λ r. ⌜ (r ≡ out + length (encode (pending last))) × (now (area .exit) ≡ pasted out (encode (pending last)) (now (area .entry))) ⌝ }
+{
+    let Open::One(held) = last else {
+        return out;
+    };
+    put_record(area, out, held);
+    out + 12
+}
