@@ -13,7 +13,7 @@ use Rattle.admit.specs.Admit.{partitionRuling}
 use Rattle.writer.specs.Decide.{decidedAnswer, decidedAreas}
 use Rattle.least.specs.Partition.{leastOf}
 use Rattle.linear.specs.Linear.{passChoiceOf, passLooksOf}
-use Rattle.controller.specs.Layout.{Answered, lent}
+use Rattle.answer.specs.Layout.{Answered, lent}
 
 -- for the ruling q, the rates, the choice c and the looks it took
 pub record CallGiven (q : Ruling) (rates : Rates) (list v : List ℕ) (c : List Bit) (looks : ℕ) (before : Areas) (answer : List ℕ) (r : ℕ) (after : Areas) (answer′ : List ℕ) : Type 0 where

@@ -1,5 +1,5 @@
 -- `controller::check` meets its contract. Assumes nothing.
-use Rattle.controller.proofs.Answering.{answered-short, answered-given}
+use Rattle.answer.proofs.Answering.{answered-short, answered-given}
 use borrow.Author.Needs.{needs}
 use Rattle.controller.proofs.check.Statement.{statement}
 use Rattle.controller.proofs.check.Tie as tie

@@ -1,5 +1,5 @@
 -- `controller::measure` meets its contract. Assumes nothing.
-use Rattle.controller.proofs.Answering.{answered-short, answered-given}
+use Rattle.answer.proofs.Answering.{answered-short, answered-given}
 use borrow.Author.Needs.{needs}
 use Rattle.controller.proofs.measure.Statement.{statement}
 use Rattle.controller.proofs.measure.Tie as tie

@@ -1,6 +1,6 @@
 -- `controller::rebuild` meets its contract. Assumes nothing.
 use mathlib.Core.Path.{_∙_}
-use Rattle.controller.proofs.Answering.{answered-short, answered-given, lent-short, lent-given}
+use Rattle.answer.proofs.Answering.{answered-short, answered-given, lent-short, lent-given}
 use borrow.Author.Needs.{needs}
 use Rattle.controller.proofs.rebuild.Statement.{statement}
 use Rattle.controller.proofs.rebuild.Tie as tie

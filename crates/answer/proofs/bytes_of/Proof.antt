@@ -1,8 +1,8 @@
--- `controller::bytes_of` meets its contract: the array is the layout by computation. Assumes nothing.
+-- `answer::bytes_of` meets its contract: the array is the layout by computation. Assumes nothing.
 use native.Mathlib.Omega.{arith}
 use borrow.Author.Needs.{needs}
-use Rattle.controller.proofs.bytes_of.Statement.{statement}
-use Rattle.controller.proofs.bytes_of.Tie as tie
+use Rattle.answer.proofs.bytes_of.Statement.{statement}
+use Rattle.answer.proofs.bytes_of.Tie as tie
 
 cast-t5 : tie.Need-cast-t5
 cast-t5 c = search needs

@@ -1,7 +1,7 @@
--- `controller::tell` meets its contract. Assumes nothing.
+-- `answer::tell` meets its contract. Assumes nothing.
 use borrow.Author.Needs.{needs}
-use Rattle.controller.proofs.tell.Statement.{statement}
-use Rattle.controller.proofs.tell.Tie as tie
+use Rattle.answer.proofs.tell.Statement.{statement}
+use Rattle.answer.proofs.tell.Tie as tie
 
 enum-known-a : tie.Need-enum-known-a
 enum-known-a c = search needs

@@ -19,7 +19,7 @@ use Rattle.format.specs.declared.Answer.{Answer}
 use Rattle.format.specs.declared.Answer.the-variants.{Accepted, Refused}
 use Rattle.format.specs.Refusal.{number}
 use Rattle.format.specs.Record.{word}
-use Rattle.controller.specs.declared.Told.{Told}
+use Rattle.answer.specs.declared.Told.{Told}
 
 -- document 01's number and values for each answer
 abbrev pub toldOf : Answer → Told

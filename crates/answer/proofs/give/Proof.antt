@@ -1,13 +1,13 @@
--- `controller::give` meets its contract: the 32 bytes over the area's front. Assumes nothing.
+-- `answer::give` meets its contract: the 32 bytes over the area's front. Assumes nothing.
 use Prim.Native.Nat.{ℕ}
 use mathlib.Core.Path.{_∙_, ap}
 use mathlib.Core.List.{List, _++_}
 use lib.ListN.{length, take, drop}
-use Rattle.controller.specs.declared.Told.{Told}
-use Rattle.controller.specs.Layout.{layout}
+use Rattle.answer.specs.declared.Told.{Told}
+use Rattle.answer.specs.Layout.{layout}
 use borrow.Author.Needs.{needs}
-use Rattle.controller.proofs.give.Statement.{statement}
-use Rattle.controller.proofs.give.Tie as tie
+use Rattle.answer.proofs.give.Statement.{statement}
+use Rattle.answer.proofs.give.Tie as tie
 
 tell-requires : tie.Need-tell-requires
 tell-requires c κs = search needs
