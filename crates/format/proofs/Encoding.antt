@@ -35,8 +35,8 @@ encode-append (r ∷ x) y = ap (λ (l : List ℕ). bytesOf r ++ l) (encode-appen
 
 -- the row that a record is written as
 abbrev pub rowFor : Record → Row
-rowFor (New s) = record { kind = 0; second = 0; third = 0; fourth = 0; size = s; address = 0 }
-rowFor (Match s a) = record { kind = 1; second = 0; third = 0; fourth = 0; size = s; address = a }
+rowFor (New s) = record { kind = 0; byte1 = 0; byte2 = 0; byte3 = 0; size = s; address = 0 }
+rowFor (Match s a) = record { kind = 1; byte1 = 0; byte2 = 0; byte3 = 0; size = s; address = a }
 
 abbrev pub rowsFor : List Record → List Row
 rowsFor [] = []
@@ -151,10 +151,10 @@ bytes-read l i h k w =
         ≡ getD l (12 * i) 0 ∷ getD l (12 * i + 1) 0 ∷ getD l (12 * i + 2) 0 ∷ getD l (12 * i + 3) 0 ∷ (take 4 (drop (12 * i + 4) l) ++ take 4 (drop (12 * i + 8) l))
     go true e =
         let z : wordAt l (12 * i + 8) ≡ 0 = f .no-address e in
-        rw (eqb-true (getD l (12 * i) 0) 0 e, f .second-zero, f .third-zero, f .fourth-zero, ← word-of l (12 * i + 4) h (omega arith), ← word-of l (12 * i + 8) h (omega arith), z)
+        rw (eqb-true (getD l (12 * i) 0) 0 e, f .byte1-zero, f .byte2-zero, f .byte3-zero, ← word-of l (12 * i + 4) h (omega arith), ← word-of l (12 * i + 8) h (omega arith), z)
     go false e =
         let one : getD l (12 * i) 0 ≡ 1 = omega (arith, f .kind-most, not-zero (eqb-false (getD l (12 * i) 0) 0 e)) in
-        rw (one, f .second-zero, f .third-zero, f .fourth-zero, ← word-of l (12 * i + 4) h (omega arith), ← word-of l (12 * i + 8) h (omega arith))
+        rw (one, f .byte1-zero, f .byte2-zero, f .byte3-zero, ← word-of l (12 * i + 4) h (omega arith), ← word-of l (12 * i + 8) h (omega arith))
       where
         not-zero : (getD l (12 * i) 0 ≡ 0 → ⊥) → 0 < getD l (12 * i) 0
         not-zero n = pos-of-ne-zero n

@@ -115,18 +115,18 @@ counted-of-fits l h =
 -- a row that passes check 4
 pub record Formed (r : Row) : Type 0 where
   pub kind-most : r .kind ≤ 1
-  pub second-zero : r .second ≡ 0
-  pub third-zero : r .third ≡ 0
-  pub fourth-zero : r .fourth ≡ 0
+  pub byte1-zero : r .byte1 ≡ 0
+  pub byte2-zero : r .byte2 ≡ 0
+  pub byte3-zero : r .byte3 ≡ 0
   pub size-least : 1 ≤ r .size
   pub no-address : isNew r ≡ true → r .address ≡ 0
 
 pub formed-of-test : (r : Row) → wellFormed r ≡ true → Formed r
 formed-of-test r e =
     let k : Bool = leb (r .kind) 1 in
-    let s : Bool = eqb (r .second) 0 in
-    let t : Bool = eqb (r .third) 0 in
-    let f : Bool = eqb (r .fourth) 0 in
+    let s : Bool = eqb (r .byte1) 0 in
+    let t : Bool = eqb (r .byte2) 0 in
+    let f : Bool = eqb (r .byte3) 0 in
     let a = both-of-and (k && s && t && f && leb 1 (r .size)) (not (isNew r) || eqb (r .address) 0) e in
     let b = both-of-and (k && s && t && f) (leb 1 (r .size)) (a .0) in
     let c = both-of-and (k && s && t) f (b .0) in
@@ -134,9 +134,9 @@ formed-of-test r e =
     let g = both-of-and k s (d .0) in
     record {
       kind-most = leb-true (r .kind) 1 (g .0);
-      second-zero = eqb-true (r .second) 0 (g .1);
-      third-zero = eqb-true (r .third) 0 (d .1);
-      fourth-zero = eqb-true (r .fourth) 0 (c .1);
+      byte1-zero = eqb-true (r .byte1) 0 (g .1);
+      byte2-zero = eqb-true (r .byte2) 0 (d .1);
+      byte3-zero = eqb-true (r .byte3) 0 (c .1);
       size-least = leb-true 1 (r .size) (b .1);
       no-address = λ n. eqb-true (r .address) 0 (rw n at (a .1));
     }

@@ -25,9 +25,9 @@ abbrev pub rowAt : List ℕ → ℕ → Row
 rowAt l i =
     record {
       kind = getD l (12 * i) 0;
-      second = getD l (12 * i + 1) 0;
-      third = getD l (12 * i + 2) 0;
-      fourth = getD l (12 * i + 3) 0;
+      byte1 = getD l (12 * i + 1) 0;
+      byte2 = getD l (12 * i + 2) 0;
+      byte3 = getD l (12 * i + 3) 0;
       size = wordAt l (12 * i + 4);
       address = wordAt l (12 * i + 8);
     }
@@ -56,7 +56,7 @@ recordsOf l = records (rowsOf l)
 
 -- number 4's opposite: kind 0 or 1, bytes 1 to 3 zero, a size, and no address in a new record
 abbrev pub wellFormed : Row → Bool
-wellFormed r = leb (r .kind) 1 && eqb (r .second) 0 && eqb (r .third) 0 && eqb (r .fourth) 0 && leb 1 (r .size) && (not (isNew r) || eqb (r .address) 0)
+wellFormed r = leb (r .kind) 1 && eqb (r .byte1) 0 && eqb (r .byte2) 0 && eqb (r .byte3) 0 && leb 1 (r .size) && (not (isNew r) || eqb (r .address) 0)
 
 -- number 3's opposite
 abbrev pub listFits : List ℕ → Bool

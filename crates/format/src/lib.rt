@@ -52,9 +52,9 @@ pub enum Answer {
 // The fields of a record, as they stand.
 pub struct Row {
     pub kind: u8,
-    pub second: u8,
-    pub third: u8,
-    pub fourth: u8,
+    pub byte1: u8,
+    pub byte2: u8,
+    pub byte3: u8,
     pub size: u32,
     pub address: u32,
 }
@@ -134,9 +134,9 @@ pub fn row_at(list: &[u8], i: usize) -> Row
     let at = 12 * i;
     Row {
         kind: list[at],
-        second: list[at + 1],
-        third: list[at + 2],
-        fourth: list[at + 3],
+        byte1: list[at + 1],
+        byte2: list[at + 2],
+        byte3: list[at + 3],
         size: word_at(list, at + 4),
         address: word_at(list, at + 8),
     }
@@ -159,13 +159,13 @@ pub fn well_formed(row: Row) -> bool
     if 1 < row.kind {
         return false;
     }
-    if row.second != 0 {
+    if row.byte1 != 0 {
         return false;
     }
-    if row.third != 0 {
+    if row.byte2 != 0 {
         return false;
     }
-    if row.fourth != 0 {
+    if row.byte3 != 0 {
         return false;
     }
     if row.size < 1 {

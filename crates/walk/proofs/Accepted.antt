@@ -76,9 +76,9 @@ pub sized-of-four : (s : Seen) (rs : List Row) → Holds four s rs → Sized (re
 sized-of-four s [] h = tt
 sized-of-four s (r ∷ rs) h = (omega (arith, size-record r, formed-of-test r (h .0) .size-least), sized-of-four (next s r) rs (h .1))
 
-pub apart-of-five : (s : Seen) (rs : List Row) → Holds five s rs → Apart (records rs) × (s .after ≡ true → NotNew (records rs))
+pub apart-of-five : (s : Seen) (rs : List Row) → Holds five s rs → Apart (records rs) × (s .fresh ≡ true → NotNew (records rs))
 apart-of-five s [] h = (tt, λ e. tt)
-apart-of-five s (r ∷ rs) h = go (isNew r) (s .after) (h .0) (apart-of-five (next s r) rs (h .1))
+apart-of-five s (r ∷ rs) h = go (isNew r) (s .fresh) (h .0) (apart-of-five (next s r) rs (h .1))
   where
     l : List Record
     l = records rs

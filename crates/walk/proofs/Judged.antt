@@ -50,13 +50,13 @@ module _ (s : Seen) (r : Row) (v st : List ℕ) where
     pub judged-malformed : wellFormed r ≡ false → judged (checks x v st) s r ≡ Stop (refuse Malformed (s .place))
     judged-malformed e = rw e
 
-    pub judged-adjacent : wellFormed r ≡ true → isNew r && s .after ≡ true → judged (checks x v st) s r ≡ Stop (refuse Adjacent (s .place))
+    pub judged-adjacent : wellFormed r ≡ true → isNew r && s .fresh ≡ true → judged (checks x v st) s r ≡ Stop (refuse Adjacent (s .place))
     judged-adjacent e f = rw (e, f)
 
-    pub judged-sizes : wellFormed r ≡ true → isNew r && s .after ≡ false → limitOf x v < s .offset + r .size → judged (checks x v st) s r ≡ Stop (refuse Sizes (s .place))
+    pub judged-sizes : wellFormed r ≡ true → isNew r && s .fresh ≡ false → limitOf x v < s .offset + r .size → judged (checks x v st) s r ≡ Stop (refuse Sizes (s .place))
     judged-sizes e f g = rw (e, f, lt-leb _ _ g)
 
-    pub judged-beyond : wellFormed r ≡ true → isNew r && s .after ≡ false → s .offset + r .size ≤ limitOf x v → judged (checks x v st) s r ≡ judged (beyond x v st) s r
+    pub judged-beyond : wellFormed r ≡ true → isNew r && s .fresh ≡ false → s .offset + r .size ≤ limitOf x v → judged (checks x v st) s r ≡ judged (beyond x v st) s r
     judged-beyond e f g = rw (e, f, le-leb _ _ g)
 
     -- a record that passes stays within the limit

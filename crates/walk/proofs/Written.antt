@@ -28,9 +28,9 @@ four-of-sized s [] h = tt
 four-of-sized s (New n ∷ l) h = (rw (le-leb 1 n (h .0)), four-of-sized (next s (rowFor (New n))) l (h .1))
 four-of-sized s (Match n a ∷ l) h = (rw (le-leb 1 n (h .0)), four-of-sized (next s (rowFor (Match n a))) l (h .1))
 
-five-of-apart : (s : Seen) (l : List Record) → (s .after ≡ true → NotNew l) → Apart l → Holds five s (rowsFor l)
+five-of-apart : (s : Seen) (l : List Record) → (s .fresh ≡ true → NotNew l) → Apart l → Holds five s (rowsFor l)
 five-of-apart s [] g h = tt
-five-of-apart s (New n ∷ l) g h = (go (s .after) g, five-of-apart (next s (rowFor (New n))) l (λ e. h .0) (h .1))
+five-of-apart s (New n ∷ l) g h = (go (s .fresh) g, five-of-apart (next s (rowFor (New n))) l (λ e. h .0) (h .1))
   where
     go : (x : Bool) → (x ≡ true → ⊥) → not x ≡ true
     go true k = absurd (k refl)
@@ -53,7 +53,7 @@ seven-of-inside st s [] h = tt
 seven-of-inside st s (New n ∷ l) h = (refl, seven-of-inside st (next s (rowFor (New n))) l h)
 seven-of-inside st s (Match n a ∷ l) h = (le-leb (a + n) (length st) (h .0), seven-of-inside st (next s (rowFor (Match n a))) l (h .1))
 
-at-front : (l : List Record) → front .after ≡ true → NotNew l
+at-front : (l : List Record) → front .fresh ≡ true → NotNew l
 at-front l e = absurd (let z : _≡_ {A = ℕ} 0 1 = cc in omega arith)
 
 -- in measure

@@ -37,7 +37,7 @@ abbrev pub four : Check
 four = record { fault = Malformed; holds = λ s r. wellFormed r }
 
 abbrev pub five : Check
-five = record { fault = Adjacent; holds = λ s r. not (isNew r && s .after) }
+five = record { fault = Adjacent; holds = λ s r. not (isNew r && s .fresh) }
 
 abbrev pub six : ℕ → Check
 six limit = record { fault = Sizes; holds = λ s r. leb (s .offset + r .size) limit }
@@ -71,7 +71,7 @@ judged (c ∷ cs) s r = need (c .holds s r) (c .fault) (s .place) then judged cs
 
 -- what is seen after a record
 abbrev pub next : Seen → Row → Seen
-next s r = record { place = s .place + 1; offset = s .offset + r .size; stored = cond (isNew r) (s .stored + r .size) (s .stored); after = isNew r }
+next s r = record { place = s .place + 1; offset = s .offset + r .size; stored = cond (isNew r) (s .stored + r .size) (s .stored); fresh = isNew r }
 
 -- the records one after the other
 abbrev pub walkOn : List Check → Seen → List Row → Ruling
@@ -79,7 +79,7 @@ walkOn cs s [] = Fine
 walkOn cs s (r ∷ rs) = judged cs s r then walkOn cs (next s r) rs
 
 abbrev pub front : Seen
-front = record { place = 0; offset = 0; stored = 0; after = false }
+front = record { place = 0; offset = 0; stored = 0; fresh = false }
 
 abbrev pub walkRuling : List Check → List ℕ → Ruling
 walkRuling cs list = walkOn cs front (rowsOf list)

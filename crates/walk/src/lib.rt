@@ -26,7 +26,7 @@ pub struct Seen {
     pub place: u32,
     pub offset: u32,
     pub stored: u32,
-    pub after: bool,
+    pub fresh: bool,
 }
 
 // Of a list that was walked through: the number of records, the sum of the sizes of new records, the sum of all sizes.
@@ -121,7 +121,7 @@ fn judge(row: Row, seen: Seen, scope: Scope, limit: u32, version: &[u8], store: 
         return stop(Fault::Malformed, seen.place);
     }
     if row.kind == 0 {
-        if seen.after {
+        if seen.fresh {
             return stop(Fault::Adjacent, seen.place);
         }
         if limit - seen.offset < row.size {
@@ -147,14 +147,14 @@ fn step(seen: Seen, row: Row) -> Seen
             place,
             offset,
             stored: seen.stored + row.size,
-            after: true,
+            fresh: true,
         };
     }
     Seen {
         place,
         offset,
         stored: seen.stored,
-        after: false,
+        fresh: false,
     }
 }
 
@@ -169,7 +169,7 @@ pub fn walk(list: &[u8], version: &[u8], store: &[u8], scope: Scope) -> Walked
         place: 0,
         offset: 0,
         stored: 0,
-        after: false,
+        fresh: false,
     };
     let mut i = 0;
     while i < n {

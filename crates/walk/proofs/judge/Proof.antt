@@ -25,7 +25,7 @@ stop-requires-2 c κs = search needs
 returns-2 : tie.Need-returns-2
 returns-2 c =
     let g = c .before .before .before .before .before .before .before .before .args in
-    c .stop2 .ensures ∙ sym (judged-adjacent (g .seen) (g .row) (g .version .now) (g .store .now) (g .scope) (sym (c .before .before .before .before .before .well-formed .ensures) ∙ not-false _ (c .before .before .before .before .if1 .left)) (ap (λ (t : Bool). t && g .seen .after) (eq-eqb _ _ (c .before .before .if2 .taken)) ∙ c .before .if3 .taken))
+    c .stop2 .ensures ∙ sym (judged-adjacent (g .seen) (g .row) (g .version .now) (g .store .now) (g .scope) (sym (c .before .before .before .before .before .well-formed .ensures) ∙ not-false _ (c .before .before .before .before .if1 .left)) (ap (λ (t : Bool). t && g .seen .fresh) (eq-eqb _ _ (c .before .before .if2 .taken)) ∙ c .before .if3 .taken))
 
 sub-if4 : tie.Need-sub-if4
 sub-if4 c = search needs
@@ -36,12 +36,12 @@ stop-requires-3 c κs = search needs
 returns-3 : tie.Need-returns-3
 returns-3 c =
     let g = c .before .before .before .before .before .before .before .before .before .before .before .args in
-    c .stop3 .ensures ∙ sym (judged-sizes (g .seen) (g .row) (g .version .now) (g .store .now) (g .scope) (sym (c .before .before .before .before .before .before .before .before .well-formed .ensures) ∙ not-false _ (c .before .before .before .before .before .before .before .if1 .left)) (ap (λ (t : Bool). t && g .seen .after) (eq-eqb _ _ (c .before .before .before .before .before .if2 .taken)) ∙ c .before .before .before .before .if3 .left) (omega (arith, c .before .before .before .before .before .before .before .before .before .before .before .pre .0)))
+    c .stop3 .ensures ∙ sym (judged-sizes (g .seen) (g .row) (g .version .now) (g .store .now) (g .scope) (sym (c .before .before .before .before .before .before .before .before .well-formed .ensures) ∙ not-false _ (c .before .before .before .before .before .before .before .if1 .left)) (ap (λ (t : Bool). t && g .seen .fresh) (eq-eqb _ _ (c .before .before .before .before .before .if2 .taken)) ∙ c .before .before .before .before .if3 .left) (omega (arith, c .before .before .before .before .before .before .before .before .before .before .before .pre .0)))
 
 returns-4 : tie.Need-returns-4
 returns-4 c =
     let g = c .before .before .before .before .before .before .before .before .before .before .args in
-    sym (judged-beyond (g .seen) (g .row) (g .version .now) (g .store .now) (g .scope) (sym (c .before .before .before .before .before .before .before .well-formed .ensures) ∙ not-false _ (c .before .before .before .before .before .before .if1 .left)) (ap (λ (t : Bool). t && g .seen .after) (eq-eqb _ _ (c .before .before .before .before .if2 .taken)) ∙ c .before .before .before .if3 .left) (omega (arith, c .before .before .before .before .before .before .before .before .before .before .pre .0)) ∙ judged-new (g .seen) (g .row) (g .version .now) (g .store .now) (g .scope) (eq-eqb _ _ (c .before .before .before .before .if2 .taken)))
+    sym (judged-beyond (g .seen) (g .row) (g .version .now) (g .store .now) (g .scope) (sym (c .before .before .before .before .before .before .before .well-formed .ensures) ∙ not-false _ (c .before .before .before .before .before .before .if1 .left)) (ap (λ (t : Bool). t && g .seen .fresh) (eq-eqb _ _ (c .before .before .before .before .if2 .taken)) ∙ c .before .before .before .if3 .left) (omega (arith, c .before .before .before .before .before .before .before .before .before .before .pre .0)) ∙ judged-new (g .seen) (g .row) (g .version .now) (g .store .now) (g .scope) (eq-eqb _ _ (c .before .before .before .before .if2 .taken)))
 
 sub-if5 : tie.Need-sub-if5
 sub-if5 c = search needs
@@ -52,7 +52,7 @@ stop-requires-4 c κs = search needs
 returns-5 : tie.Need-returns-5
 returns-5 c =
     let g = c .before .before .before .before .before .before .before .before .before .before .args in
-    c .stop4 .ensures ∙ sym (judged-sizes (g .seen) (g .row) (g .version .now) (g .store .now) (g .scope) (sym (c .before .before .before .before .before .before .before .well-formed .ensures) ∙ not-false _ (c .before .before .before .before .before .before .if1 .left)) (ap (λ (t : Bool). t && g .seen .after) (ne-eqb _ _ (c .before .before .before .before .if2 .left))) (omega (arith, c .before .before .before .before .before .before .before .before .before .before .pre .0)))
+    c .stop4 .ensures ∙ sym (judged-sizes (g .seen) (g .row) (g .version .now) (g .store .now) (g .scope) (sym (c .before .before .before .before .before .before .before .well-formed .ensures) ∙ not-false _ (c .before .before .before .before .before .before .if1 .left)) (ap (λ (t : Bool). t && g .seen .fresh) (ne-eqb _ _ (c .before .before .before .before .if2 .left))) (omega (arith, c .before .before .before .before .before .before .before .before .before .before .pre .0)))
 
 judge-match-requires : tie.Need-judge-match-requires
 judge-match-requires c κs = (ne-eqb _ _ (c .before .before .before .if2 .left), omega (arith, c .before .before .before .before .before .before .before .before .before .pre .0))
@@ -60,7 +60,7 @@ judge-match-requires c κs = (ne-eqb _ _ (c .before .before .before .if2 .left),
 returns-6 : tie.Need-returns-6
 returns-6 c =
     let g = c .before .before .before .before .before .before .before .before .before .before .args in
-    c .judge-match .ensures ∙ sym (judged-beyond (g .seen) (g .row) (g .version .now) (g .store .now) (g .scope) (sym (c .before .before .before .before .before .before .before .well-formed .ensures) ∙ not-false _ (c .before .before .before .before .before .before .if1 .left)) (ap (λ (t : Bool). t && g .seen .after) (ne-eqb _ _ (c .before .before .before .before .if2 .left))) (omega (arith, c .before .before .before .before .before .before .before .before .before .before .pre .0)))
+    c .judge-match .ensures ∙ sym (judged-beyond (g .seen) (g .row) (g .version .now) (g .store .now) (g .scope) (sym (c .before .before .before .before .before .before .before .well-formed .ensures) ∙ not-false _ (c .before .before .before .before .before .before .if1 .left)) (ap (λ (t : Bool). t && g .seen .fresh) (ne-eqb _ _ (c .before .before .before .before .if2 .left))) (omega (arith, c .before .before .before .before .before .before .before .before .before .before .pre .0)))
 
 pub judge-spec : {M : Type 1} → statement M
 judge-spec =
