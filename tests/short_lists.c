@@ -1,0 +1,529 @@
+/* short_lists.c - partition and pass on every short list, against every choice of it and a second writing of the five rules.
+ *
+ * Written from document 01 alone: nothing here is of the crates or of tests/reference. The lists have 0 to 6 records, new or match,
+ * of the sizes 1, 3, 4, 7 and 8, around P = 4 and 2P. Partition must give the choice that comes first among all; pass must give what
+ * the rules leave, and keep its bounds: no dearer than the list handed in, no cheaper than the least choice, at most 2n - 1 looks.
+ * Answers are compared field by field and areas to their last byte.
+ *
+ * In order: the price; lists; a choice; the least choice; the pass; what is due; one call; one list; all lists.
+ * Exit 0 and one line with the counts, each held to its number, else 1 and a line for each of the first lists that are wrong.
+ */
+#include <inttypes.h>
+#include <stdio.h>
+#include <string.h>
+
+#include "controller.h"
+
+/* ---- The price ---- */
+
+enum { E = 2, F = 2 };
+
+/* What an entry costs: P. */
+static uint64_t entry_cost(void)
+{
+    return (uint64_t)F * E;
+}
+
+/* What stored bytes cost, in the same unit. */
+static uint64_t bytes_cost(uint64_t bytes)
+{
+    return bytes;
+}
+
+/* ---- Lists ---- */
+
+/* The most records, and the longest version: 6 records of 8. */
+enum { MOST = 6, LONGEST = 48 };
+
+/* The marks of the pass are of neither kind. */
+enum { NEW = 0, MATCH = 1, MARK = 2 };
+
+struct record {
+    uint32_t kind, size, address;
+};
+
+struct list {
+    size_t n;
+    struct record at[MOST];
+};
+
+static uint64_t stored_bytes(const struct list *list)
+{
+    uint64_t sum = 0;
+    for (size_t i = 0; i < list->n; i++)
+        if (list->at[i].kind == NEW)
+            sum += list->at[i].size;
+    return sum;
+}
+
+/* Formula (1). */
+static uint64_t cost(const struct list *list)
+{
+    return entry_cost() * list->n + bytes_cost(stored_bytes(list));
+}
+
+static int same_list(const struct list *a, const struct list *b)
+{
+    if (a->n != b->n)
+        return 0;
+    for (size_t i = 0; i < a->n; i++)
+        if (a->at[i].kind != b->at[i].kind || a->at[i].size != b->at[i].size || a->at[i].address != b->at[i].address)
+            return 0;
+    return 1;
+}
+
+/* The bytes of a list, 12 to a record. */
+static void write_list(const struct list *list, uint8_t *bytes)
+{
+    for (size_t i = 0; i < list->n; i++, bytes += RECORD_BYTES) {
+        memset(bytes, 0, RECORD_BYTES);
+        bytes[0] = (uint8_t)list->at[i].kind;
+        for (int b = 0; b < 4; b++) {
+            bytes[4 + b] = (uint8_t)(list->at[i].size >> (8 * b));
+            bytes[8 + b] = (uint8_t)(list->at[i].address >> (8 * b));
+        }
+    }
+}
+
+/* The stored block of a list: the bytes of its new records, joined. */
+static void write_block(const struct list *list, const uint8_t *version, uint8_t *block)
+{
+    for (size_t i = 0; i < list->n; i++) {
+        if (list->at[i].kind == NEW) {
+            memcpy(block, version, list->at[i].size);
+            block += list->at[i].size;
+        }
+        version += list->at[i].size;
+    }
+}
+
+/* ---- A choice ---- */
+
+/* What a record leaves to choose: a new one always has 1. */
+static int may_have(const struct record *r, uint8_t bit)
+{
+    return r->kind == MATCH || bit == 1;
+}
+
+/* A record under its bit: 0 keeps it as it was, 1 makes it new. */
+static struct record under(const struct record *r, uint8_t bit)
+{
+    const struct record made_new = { NEW, r->size, 0 };
+    return bit == 0 ? *r : made_new;
+}
+
+/* Which neighbours become one record: two new ones. */
+static int join(const struct record *a, const struct record *b)
+{
+    return a->kind == NEW && b->kind == NEW;
+}
+
+static int is_choice(const struct list *list, const uint8_t *bits)
+{
+    for (size_t i = 0; i < list->n; i++)
+        if (!may_have(&list->at[i], bits[i]))
+            return 0;
+    return 1;
+}
+
+/* The list of a choice. */
+static struct list list_of(const struct list *list, const uint8_t *bits)
+{
+    struct list made = { .n = 0 };
+    for (size_t i = 0; i < list->n; i++) {
+        const struct record r = under(&list->at[i], bits[i]);
+        if (made.n > 0 && join(&made.at[made.n - 1], &r))
+            made.at[made.n - 1].size += r.size;
+        else
+            made.at[made.n++] = r;
+    }
+    return made;
+}
+
+/* ---- The least choice ---- */
+
+struct candidate {
+    uint8_t bits[MOST];
+    struct list list;
+    uint64_t cost;
+};
+
+/* Whether one goes before another: it costs less, or as much and has 0 at the first record where they differ. */
+static int goes_before(const struct candidate *a, const struct candidate *b, size_t n)
+{
+    if (a->cost != b->cost)
+        return a->cost < b->cost;
+    for (size_t i = 0; i < n; i++)
+        if (a->bits[i] != b->bits[i])
+            return a->bits[i] == 0;
+    return 0;
+}
+
+/* Every choice of a list: how many there are, how many cost least, and the one that goes before all others. */
+struct rivals {
+    uint64_t choices, cheapest;
+    struct candidate least;
+};
+
+static void count_in(struct rivals *all, const struct candidate *c, size_t n)
+{
+    if (all->choices == 0 || c->cost < all->least.cost)
+        all->cheapest = 1;
+    else if (c->cost == all->least.cost)
+        all->cheapest++;
+    if (all->choices == 0 || goes_before(c, &all->least, n))
+        all->least = *c;
+    all->choices++;
+}
+
+static struct rivals rivals_of(const struct list *list)
+{
+    struct rivals all = { .choices = 0 };
+    for (unsigned mask = 0; mask < 1u << list->n; mask++) {
+        struct candidate c;
+        for (size_t i = 0; i < list->n; i++)
+            c.bits[i] = mask >> i & 1;
+        if (!is_choice(list, c.bits))
+            continue;
+        c.list = list_of(list, c.bits);
+        c.cost = cost(&c.list);
+        count_in(&all, &c, list->n);
+    }
+    return all;
+}
+
+/* ---- The pass ---- */
+
+/* The records between a front mark, at 0, and a rear mark; p is the place looked at. */
+struct row {
+    size_t p, rear;
+    struct record at[MOST + 2];
+};
+
+/* p starts at the first record, or at the rear if there is none. */
+static struct row row_of(const struct list *list)
+{
+    const struct record mark = { MARK, 0, 0 };
+    struct row row = { 1, list->n + 1, { mark } };
+    for (size_t i = 0; i < list->n; i++)
+        row.at[1 + i] = list->at[i];
+    row.at[row.rear] = mark;
+    return row;
+}
+
+static struct list records_of(const struct row *row)
+{
+    struct list list = { .n = row->rear - 1 };
+    for (size_t i = 0; i < list.n; i++)
+        list.at[i] = row->at[1 + i];
+    return list;
+}
+
+static int is_new(const struct record *r)
+{
+    return r->kind == NEW;
+}
+
+static int is_match(const struct record *r)
+{
+    return r->kind == MATCH;
+}
+
+/* The four merges ask for a match at p, which is no mark; so the one before p and the one after are there. */
+
+static int first_applies(const struct record *p)
+{
+    return is_match(p) && is_new(p - 1) && is_new(p + 1) && bytes_cost(p->size) < 2 * entry_cost();
+}
+
+static int second_applies(const struct record *p)
+{
+    return is_match(p) && is_new(p - 1) && bytes_cost(p->size) < entry_cost();
+}
+
+static int third_applies(const struct record *p)
+{
+    return is_match(p) && is_new(p + 1) && bytes_cost(p->size) < entry_cost();
+}
+
+static int fourth_applies(const struct record *p)
+{
+    return is_match(p) && is_match(p + 1) && !is_new(p - 1) && !is_new(p + 2)
+        && bytes_cost((uint64_t)p->size + (p + 1)->size) < entry_cost();
+}
+
+/* Makes one new record of so many from a place on; those after it move up to it. */
+static void merge(struct row *row, size_t from, size_t count)
+{
+    struct record made = { NEW, 0, 0 };
+    for (size_t i = from; i < from + count; i++)
+        made.size += row->at[i].size;
+    row->at[from] = made;
+    for (size_t i = from + count; i <= row->rear; i++)
+        row->at[i - count + 1] = row->at[i];
+    row->rear -= count - 1;
+}
+
+/* One look: the first that applies. */
+static void look(struct row *row)
+{
+    const size_t p = row->p;
+    const struct record *at = &row->at[p];
+    if (first_applies(at)) {
+        merge(row, p - 1, 3);
+        row->p = (p - 1) + 1;
+    } else if (second_applies(at)) {
+        merge(row, p - 1, 2);
+        row->p = (p - 1) + 1;
+    } else if (third_applies(at)) {
+        merge(row, p, 2);
+        row->p = p - 1;
+    } else if (fourth_applies(at)) {
+        merge(row, p, 2);
+        row->p = p - 1;
+    } else {
+        row->p = p + 1;
+    }
+}
+
+/* Whether a byte of the version lies in a new record. */
+static int lies_in_new(const struct list *list, uint64_t offset)
+{
+    uint64_t end = 0;
+    for (size_t i = 0; i < list->n; i++) {
+        end += list->at[i].size;
+        if (offset < end)
+            return list->at[i].kind == NEW;
+    }
+    return 0;
+}
+
+/* ---- What is due ---- */
+
+struct due {
+    struct candidate made;
+    uint32_t looks;
+};
+
+static struct due partition_due(const struct rivals *all)
+{
+    const struct due due = { all->least, 0 };
+    return due;
+}
+
+/* The list that the looks leave, and the choice that it is of: 1 for each record whose bytes lie in a new one. */
+static struct due pass_due(const struct list *list)
+{
+    struct row row = row_of(list);
+    struct due due = { .looks = 0 };
+    for (; row.p != row.rear; due.looks++)
+        look(&row);
+    due.made.list = records_of(&row);
+    due.made.cost = cost(&due.made.list);
+    uint64_t offset = 0;
+    for (size_t i = 0; i < list->n; i++) {
+        due.made.bits[i] = (uint8_t)lies_in_new(&due.made.list, offset);
+        offset += list->at[i].size;
+    }
+    return due;
+}
+
+/* Whether the pass leaves the list of a choice. */
+static int leaves_a_choice(const struct list *list, const struct due *due)
+{
+    const struct list made = list_of(list, due->made.bits);
+    return is_choice(list, due->made.bits) && same_list(&made, &due->made.list);
+}
+
+/* The most looks at a list: 2n - 1, and none at none. */
+static uint64_t most_looks(const struct list *list)
+{
+    return list->n == 0 ? 0 : 2 * list->n - 1;
+}
+
+/* ---- One call ---- */
+
+/* Each area is longer than the call needs and is filled beforehand. */
+enum { FILL = 0xEE, CHOICE_AREA = MOST + 2, LIST_AREA = MOST * RECORD_BYTES + 8, BLOCK_AREA = LONGEST + 8, ANSWER_AREA = ANSWER_BYTES + 8 };
+
+struct areas {
+    uint8_t choice[CHOICE_AREA], list[LIST_AREA], block[BLOCK_AREA], answer[ANSWER_AREA];
+};
+
+/* A list with the version that it covers; the store is the same for all. */
+enum { STORE = 60 };
+static uint8_t store[STORE];
+
+struct input {
+    struct list list;
+    size_t whole;
+    uint8_t version[LONGEST];
+};
+
+typedef uint32_t call_of(uint32_t, uint32_t, const uint8_t *, size_t, const uint8_t *, size_t, const uint8_t *, size_t,
+                         uint8_t *, size_t, uint8_t *, size_t, uint8_t *, size_t, uint8_t *, size_t);
+
+static uint32_t make_call(call_of *call, const struct input *in, struct areas *got)
+{
+    uint8_t bytes[MOST * RECORD_BYTES];
+    write_list(&in->list, bytes);
+    memset(got, FILL, sizeof *got);
+    return call(E, F, bytes, in->list.n * RECORD_BYTES, in->version, in->whole, store, STORE, got->choice, CHOICE_AREA,
+                got->list, LIST_AREA, got->block, BLOCK_AREA, got->answer, ANSWER_AREA);
+}
+
+static void put_number(uint8_t *to, size_t bytes, uint64_t n)
+{
+    for (size_t i = 0; i < bytes; i++)
+        to[i] = (uint8_t)(n >> (8 * i));
+}
+
+/* The areas as they are due: accepted, so number and place are 0; neither call gives a whole length. */
+static struct areas areas_due(const struct input *in, const struct due *due)
+{
+    struct areas areas;
+    memset(&areas, FILL, sizeof areas);
+    memcpy(areas.choice, due->made.bits, in->list.n);
+    write_list(&due->made.list, areas.list);
+    write_block(&due->made.list, in->version, areas.block);
+    memset(areas.answer, 0, ANSWER_BYTES);
+    put_number(areas.answer + 8, 8, due->made.cost);
+    put_number(areas.answer + 16, 4, due->made.list.n);
+    put_number(areas.answer + 20, 4, stored_bytes(&due->made.list));
+    put_number(areas.answer + 24, 4, due->looks);
+    return areas;
+}
+
+/* What is not as it is due: the first of it, or NULL. */
+static const char *differs(call_of *call, const struct input *in, const struct due *due)
+{
+    static const struct { const char *name; size_t from, bytes; } fields[] = {
+        { "number", 0, 4 }, { "place", 4, 4 }, { "cost", 8, 8 }, { "entries", 16, 4 }, { "stored bytes", 20, 4 }, { "looks", 24, 4 },
+        { "whole length", 28, 4 }, { "answer area, beyond", ANSWER_BYTES, ANSWER_AREA - ANSWER_BYTES },
+    };
+    struct areas got;
+    const struct areas want = areas_due(in, due);
+    if (make_call(call, in, &got) != ACCEPTED)
+        return "returned number";
+    for (size_t i = 0; i < sizeof fields / sizeof fields[0]; i++)
+        if (memcmp(got.answer + fields[i].from, want.answer + fields[i].from, fields[i].bytes) != 0)
+            return fields[i].name;
+    if (memcmp(got.choice, want.choice, CHOICE_AREA) != 0)
+        return "choice area";
+    if (memcmp(got.list, want.list, LIST_AREA) != 0)
+        return "list area";
+    if (memcmp(got.block, want.block, BLOCK_AREA) != 0)
+        return "stored block area";
+    return NULL;
+}
+
+/* ---- One list ---- */
+
+static struct { uint64_t lists, choices, ties, dearer, looks, wrong; } count;
+
+enum { REPORTED = 10 };
+
+static void report(const struct list *list, const char *call, const char *what)
+{
+    if (++count.wrong > REPORTED)
+        return;
+    printf("short_lists:");
+    for (size_t i = 0; i < list->n; i++)
+        printf(" %c%" PRIu32, list->at[i].kind == NEW ? 'N' : 'M', list->at[i].size);
+    printf(": %s: %s\n", call, what);
+}
+
+static void expect(int ok, const struct list *list, const char *call, const char *what)
+{
+    if (!ok)
+        report(list, call, what);
+}
+
+static void try_call(const char *name, call_of *call, const struct input *in, const struct due *due)
+{
+    const char *wrong = differs(call, in, due);
+    if (wrong != NULL)
+        report(&in->list, name, wrong);
+}
+
+static void try_list(const struct input *in)
+{
+    const struct list *list = &in->list;
+    const struct rivals all = rivals_of(list);
+    const struct due least = partition_due(&all), passed = pass_due(list);
+    try_call("partition", partition, in, &least);
+    try_call("pass", pass, in, &passed);
+    expect(leaves_a_choice(list, &passed), list, "the rules", "leave no choice's list");
+    expect(least.made.cost <= passed.made.cost, list, "the rules", "leave a list under the least cost");
+    expect(passed.made.cost <= cost(list), list, "the rules", "leave a list dearer than the one handed in");
+    expect(passed.looks <= most_looks(list), list, "the rules", "take more than 2n - 1 looks");
+    count.lists++;
+    count.choices += all.choices;
+    count.ties += all.cheapest > 1;
+    count.dearer += least.made.cost < passed.made.cost;
+    count.looks += passed.looks;
+}
+
+/* ---- All lists ---- */
+
+/* The records of which lists are made. */
+static const struct shape {
+    uint32_t kind, size;
+} shapes[] = {
+    { NEW, 1 }, { NEW, 3 }, { NEW, 4 }, { NEW, 7 }, { NEW, 8 },
+    { MATCH, 1 }, { MATCH, 3 }, { MATCH, 4 }, { MATCH, 7 }, { MATCH, 8 },
+};
+
+/* Where record i begins in the store, if it is a match: before all that came before it, so that no match goes on where one ended. */
+static uint32_t address(size_t i)
+{
+    return (uint32_t)(50 - 10 * i);
+}
+
+/* No new record right after a new one. */
+static int may_follow(const struct list *list, const struct shape *shape)
+{
+    return list->n == 0 || list->at[list->n - 1].kind != NEW || shape->kind != NEW;
+}
+
+/* One record more, with its bytes of the version: a match has the store's, 1 to 60, a new one others, 100 and above. */
+static struct input append(const struct input *in, const struct shape *shape)
+{
+    struct input next = *in;
+    struct record *r = &next.list.at[next.list.n];
+    *r = (struct record){ shape->kind, shape->size, shape->kind == MATCH ? address(next.list.n) : 0 };
+    next.list.n++;
+    for (uint32_t i = 0; i < r->size; i++, next.whole++)
+        next.version[next.whole] = r->kind == MATCH ? store[r->address + i] : (uint8_t)(100 + next.whole);
+    return next;
+}
+
+/* Tries a list, and all that begin with it. */
+static void try_all_from(const struct input *in)
+{
+    try_list(in);
+    for (size_t i = 0; in->list.n < MOST && i < sizeof shapes / sizeof shapes[0]; i++) {
+        if (may_follow(&in->list, &shapes[i])) {
+            const struct input next = append(in, &shapes[i]);
+            try_all_from(&next);
+        }
+    }
+}
+
+/* Kinds of n records, no new one right after a new one, there are 1, 2, 3, 5, 8, 13, 21, each the sum of the two before; and 5 sizes
+ * for each record: 1 + 2 * 5 + 3 * 25 + 5 * 125 + 8 * 625 + 13 * 3,125 + 21 * 15,625 lists. A choice is free at each match, so of
+ * choices there are 1 + 3 * 5 + 8 * 25 + 22 * 125 + 60 * 625 + 164 * 3,125 + 448 * 15,625. The other three were counted once. */
+enum { LISTS = 374461, CHOICES = 7552966, TIES = 156779, DEARER = 56252, LOOKS = 2160733 };
+
+int main(void)
+{
+    const struct input none = { .whole = 0 };
+    for (size_t i = 0; i < STORE; i++)
+        store[i] = (uint8_t)(1 + i);
+    try_all_from(&none);
+    printf("short_lists: %" PRIu64 " lists of %d, %" PRIu64 " choices of %d, %" PRIu64 " lists with a tie of %d, %" PRIu64
+           " passes dearer of %d, %" PRIu64 " looks of %d, %" PRIu64 " wrong\n", count.lists, LISTS, count.choices, CHOICES, count.ties,
+           TIES, count.dearer, DEARER, count.looks, LOOKS, count.wrong);
+    return count.lists != LISTS || count.choices != CHOICES || count.ties != TIES || count.dearer != DEARER || count.looks != LOOKS
+        || count.wrong != 0;
+}
