@@ -17,10 +17,10 @@ use Rattle.pass.specs.Machine.{itemOf, itemAt, below, fromPlace}
 pub state-of : {l l′ r r′ : List Item} → l ≡ l′ → r ≡ r′ → _≡_ {A = State} (record { left = l; right = r }) (record { left = l′; right = r′ })
 state-of p q = λ i. record { left = p i; right = q i }
 
-cons-of : {x x′ : Item} {l l′ : List Item} → x ≡ x′ → l ≡ l′ → x ∷ l ≡ x′ ∷ l′
+pub cons-of : {x x′ : Item} {l l′ : List Item} → x ≡ x′ → l ≡ l′ → x ∷ l ≡ x′ ∷ l′
 cons-of p q = λ i. p i ∷ q i
 
-ne-of-lt : (i k : ℕ) → i < k → i ≢ k
+pub ne-of-lt : (i k : ℕ) → i < k → i ≢ k
 ne-of-lt i k h e = lt-irrefl k (subst (λ (n : ℕ). n < k) e h)
 
 ne-of-gt : (i k : ℕ) → k < i → i ≢ k

@@ -17,20 +17,25 @@ use Rattle.pass.specs.declared.Machine.{Machine}
 use Rattle.pass.specs.declared.Merge.the-variants.{Both, Before, After, Pair}
 use Rattle.pass.specs.declared.Outcome.{Outcome}
 use Rattle.pass.specs.declared.Outcome.the-variants.{Advance, Merged}
+use Rattle.pass.specs.declared.Sight.{Sight}
+use Rattle.pass.specs.declared.Move.{Move}
 use Rattle.pass.specs.declared.Step.{Step}
 use Rattle.pass.specs.declared.Passed.{Passed}
-use Rattle.pass.specs.Pass.{Item, new, match, neither, mark, isMatch, bytes, State, rest, testsOf, after, mergeIn, Look, lookAt, pass, joined, choiceOf}
+use Rattle.pass.specs.Pass.{Item, new, match, neither, mark, isMatch, bytes, State, first, rest, testsOf, mergeIn, Look, lookAt, pass, joined, choiceOf}
 
 -- kind 0 is new, 1 a match, any other neither
 abbrev pub itemOf : ℕ → ℕ → Item
 itemOf k s = cond (eqb k 0) (new s) (cond (eqb k 1) (match s) (neither s))
 
--- the item of a cell, of a place of two arrays
+-- the item of a cell; the cell and the item at a place of two arrays
 abbrev pub cellItem : Cell → Item
 cellItem c = itemOf (c .kind) (c .size)
 
+abbrev pub cellAt : List ℕ → List ℕ → ℕ → Cell
+cellAt ks ss i = record { kind = getD ks i 0; size = getD ss i 0 }
+
 abbrev pub itemAt : List ℕ → List ℕ → ℕ → Item
-itemAt ks ss i = itemOf (getD ks i 0) (getD ss i 0)
+itemAt ks ss i = cellItem (cellAt ks ss i)
 
 -- the items at the places below i, from the nearest on
 abbrev pub below : List ℕ → List ℕ → ℕ → List Item
@@ -58,27 +63,35 @@ stateOf m = record { left = leftOf m; right = rightOf m }
 abbrev pub afterOf : Machine → List Item
 afterOf m = fromPlace (m .kinds) (m .sizes) (m .right + 1)
 
--- the three moves: p goes to the one after; the one before p becomes a new record of s bytes, and p goes n on; p and the one after it become a
--- new record of s bytes, and p goes to the one before
-abbrev pub goneOn : Machine → State
-goneOn m = record { left = itemIn m (m .right) ∷ leftOf m; right = afterOf m }
+-- what a look sees from a cursor: the items around it, a mark where there is none
+pub record Sighted (ks ss : List ℕ) (left right : ℕ) (s : Sight) : Type 0 where
+  pub before-is : cellItem (s .before) ≡ first (below ks ss left)
+  pub p-is : cellItem (s .p) ≡ itemAt ks ss right
+  pub after-is : cellItem (s .after) ≡ first (fromPlace ks ss (right + 1))
+  pub second-is : cellItem (s .second) ≡ first (rest (fromPlace ks ss (right + 1)))
 
-abbrev pub fusedBack : Machine → ℕ → ℕ → State
-fusedBack m s n = record { left = new s ∷ below (m .kinds) (m .sizes) (m .left - 1); right = fromPlace (m .kinds) (m .sizes) (m .right + n) }
+-- a new record of s bytes
+abbrev pub newCell : ℕ → Cell
+newCell s = record { kind = 0; size = s }
 
-abbrev pub fusedAhead : Machine → ℕ → State
-fusedAhead m s =
-    record {
-      left = below (m .kinds) (m .sizes) (m .left - 1);
-      right = itemIn m (m .left - 1) ∷ new s ∷ fromPlace (m .kinds) (m .sizes) (m .right + 2);
-    }
+-- the three moves, from a cursor l and r with the cells b before p and p: p goes to the one after; the one before p becomes a new record of s
+-- bytes, and p goes n on; p and the one after it become a new record of s bytes, and p goes to the one before
+abbrev pub goneOn : ℕ → ℕ → Cell → Move
+goneOn l r p = record { left = l + 1; right = r + 1; at = l; made = p; stays = p }
 
--- a machine that came of another: the state that it holds, its cursor, and the rear mark as it was
-pub record Moved (m r : Machine) (to : State) (left right : ℕ) : Type 0 where
-  pub holds : stateOf r ≡ to
-  pub left-is : r .left ≡ left
-  pub right-is : r .right ≡ right
-  pub rear-kept : itemIn r 4097 ≡ itemIn m 4097
+abbrev pub fusedBack : ℕ → ℕ → Cell → ℕ → ℕ → Move
+fusedBack l r p s n = record { left = l; right = r + n; at = l - 1; made = newCell s; stays = p }
+
+abbrev pub fusedAhead : ℕ → ℕ → Cell → ℕ → Move
+fusedAhead l r b s = record { left = l - 1; right = r; at = r + 1; made = newCell s; stays = b }
+
+-- the move of an outcome
+abbrev pub moveOf : ℕ → ℕ → Cell → Cell → Outcome → Move
+moveOf l r b p Advance = goneOn l r p
+moveOf l r b p (Merged (Both s)) = fusedBack l r p s 2
+moveOf l r b p (Merged (Before s)) = fusedBack l r p s 1
+moveOf l r b p (Merged (After s)) = fusedAhead l r b s
+moveOf l r b p (Merged (Pair s)) = fusedAhead l r b s
 
 -- the items from p on that an outcome takes up
 abbrev pub reach : Outcome → ℕ
@@ -89,17 +102,10 @@ reach (Merged (After s)) = 2
 reach (Merged (Pair s)) = 2
 
 -- an outcome finds the items that it takes up
-pub record Reaches (m : Machine) (o : Outcome) : Type 0 where
-  pub gap : m .left ≤ m .right
-  pub behind : mergeIn o ≤ m .left
-  pub ahead : m .right + reach o ≤ 4097
-
--- what an outcome makes of a machine
-pub record Carried (m : Machine) (o : Outcome) (r : Machine) : Type 0 where
-  pub holds : stateOf r ≡ after o (leftOf m) (itemIn m (m .right)) (afterOf m)
-  pub gap : r .left ≤ r .right
-  pub within : r .right ≤ 4097
-  pub rear-kept : itemIn r 4097 ≡ itemIn m 4097
+pub record Reaches (left right : ℕ) (o : Outcome) : Type 0 where
+  pub gap : left ≤ right
+  pub behind : mergeIn o ≤ left
+  pub ahead : right + reach o ≤ 4097
 
 -- a machine on which a look can be made
 pub record Ready (rates : Rates) (m : Machine) : Type 0 where

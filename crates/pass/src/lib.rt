@@ -1,6 +1,6 @@
 // The pass: the linear method of source document 001, look by look, and the choice that its list stands for.
 //
-// In order: the carried list; what a look comes to; the four merges and the advance; a look; the run; a list loaded; a choice read off; the pass.
+// In order: the carried list; what a look comes to; what it sees; the advance and the four merges; a look; the run; a list loaded; a choice read off; the pass.
 // Not here: what is refused. Callers hand in lists that were accepted.
 ghost use mathlib.Core.Path.{_≡_};
 ghost use Prim.Native.Nat.{_+_, _-_, _≤_, _<_};
@@ -10,8 +10,8 @@ ghost use Rattle.format.specs.Meaning.{sizeOf};
 ghost use Rattle.price.specs.Price.{RatesFit};
 ghost use Rattle.choice.specs.Choice.{bitByte, bitBytes};
 ghost use Rattle.area.specs.Area.{over};
-ghost use Rattle.pass.specs.Pass.{Item, new, match, testsOf, outcomeAt, items, itemFor, bitFor, choiceOf, Passable, PassIn};
-ghost use Rattle.pass.specs.Machine.{itemOf, cellItem, rightOf, endOf, goneOn, fusedBack, fusedAhead, Moved, Reaches, Carried, Ready, Looked, Loaded, Runnable, Ran, Covering};
+ghost use Rattle.pass.specs.Pass.{Item, new, match, mark, testsOf, outcomeAt, items, itemFor, bitFor, choiceOf, Passable, PassIn};
+ghost use Rattle.pass.specs.Machine.{itemOf, cellItem, cellAt, newCell, itemAt, rightOf, endOf, Sighted, goneOn, fusedBack, fusedAhead, moveOf, Reaches, Ready, Looked, Loaded, Runnable, Ran, Covering};
 use format::Record;
 use price::DiskBytes;
 use price::Rates;
@@ -44,17 +44,34 @@ pub struct Machine {
     pub right: usize,
 }
 
-// What came of a look, with the list after it, and what it counts.
+// What a look sees: p, with the one before it, the one after it and the second after it.
+pub struct Sight {
+    pub before: Cell,
+    pub p: Cell,
+    pub after: Cell,
+    pub second: Cell,
+}
+
+// What an outcome does to the list: p's place gets `stays`, then the place `at` gets `made`, and the cursor goes to `left` and `right`.
+pub struct Move {
+    pub left: usize,
+    pub right: usize,
+    pub at: usize,
+    pub made: Cell,
+    pub stays: Cell,
+}
+
+// The list after a look, with what came of the look and what it counts. (The list first: the compiler then spares the copies between looks.)
 pub struct Step {
-    pub outcome: Outcome,
     pub list: Machine,
+    pub outcome: Outcome,
     pub looks: u32,
 }
 
-// The number of looks, with the list at the end.
+// The list at the end, with the number of looks.
 pub struct Passed {
-    pub looks: u32,
     pub list: Machine,
+    pub looks: u32,
 }
 
 // Rules 1, 2 and 5 for a match of `size` bytes that stands after a new record of `before` bytes.
@@ -106,109 +123,125 @@ fn outcome_at(rates: Rates, before: Cell, p: Cell, after: Cell, second: Cell) ->
     Outcome::Advance
 }
 
-// p goes to the one after.
-fn advanced(mut machine: Machine) -> Machine
-    requires { ⌜ (machine .left ≤ machine .right) × (machine .right < 4097) ⌝ }
-    ensures { λ r. ⌜ Moved machine r (goneOn machine) (machine .left + 1) (machine .right + 1) ⌝ }
+// The cell at a place.
+fn cell_at<'a>(kinds: &'a [u8; 4098], sizes: &'a [u32; 4098], at: usize) -> Cell
+    requires { ⌜ at < 4098 ⌝ }
+    ensures { λ r. ⌜ r ≡ cellAt (now (kinds .entry)) (now (sizes .entry)) at ⌝ }
 {
-    let left = machine.left;
-    let right = machine.right;
-    machine.kinds[left] = machine.kinds[right];
-    machine.sizes[left] = machine.sizes[right];
-    machine.left = left + 1;
-    machine.right = right + 1;
-    machine
+    Cell {
+        kind: kinds[at],
+        size: sizes[at],
+    }
+}
+
+// What a look sees from a cursor: a mark where there is nothing.
+fn sight_of<'a>(kinds: &'a [u8; 4098], sizes: &'a [u32; 4098], left: usize, right: usize) -> Sight
+    requires { ⌜ (right < 4097) × (left ≤ right) × (itemAt (now kinds) (now sizes) 4097 ≡ mark) ⌝ }
+    ensures { λ r. ⌜ Sighted (now (kinds .entry)) (now (sizes .entry)) left right r ⌝ }
+{
+    let mut before = Cell { kind: 2, size: 0 };
+    if 0 < left {
+        before = cell_at(kinds, sizes, left - 1);
+    }
+    let mut second = Cell { kind: 2, size: 0 };
+    if right < 4096 {
+        second = cell_at(kinds, sizes, right + 2);
+    }
+    let p = cell_at(kinds, sizes, right);
+    let after = cell_at(kinds, sizes, right + 1);
+    Sight {
+        before,
+        p,
+        after,
+        second,
+    }
+}
+
+// p goes to the one after.
+fn advanced(left: usize, right: usize, p: Cell) -> Move
+    requires { ⌜ (left ≤ right) × (right < 4097) ⌝ }
+    ensures { λ r. ⌜ r ≡ goneOn left right p ⌝ }
+{
+    Move {
+        left: left + 1,
+        right: right + 1,
+        at: left,
+        made: p,
+        stays: p,
+    }
+}
+
+// A new record of `size` bytes.
+fn new_cell(size: u32) -> Cell
+    ensures { λ r. ⌜ r ≡ newCell size ⌝ }
+{
+    Cell { kind: 0, size }
 }
 
 // The one before p becomes a new record of `size` bytes, and p goes `count` on.
-fn fused_back(mut machine: Machine, size: u32, count: usize) -> Machine
-    requires { ⌜ (0 < machine .left) × (machine .left ≤ machine .right) × (1 ≤ count) × (machine .right + count ≤ 4097) ⌝ }
-    ensures { λ r. ⌜ Moved machine r (fusedBack machine size count) (machine .left) (machine .right + count) ⌝ }
+fn fused_back(left: usize, right: usize, p: Cell, size: u32, count: usize) -> Move
+    requires { ⌜ (0 < left) × (right + count ≤ 4097) ⌝ }
+    ensures { λ r. ⌜ r ≡ fusedBack left right p size count ⌝ }
 {
-    let before = machine.left - 1;
-    let right = machine.right;
-    machine.kinds[before] = 0;
-    machine.sizes[before] = size;
-    machine.right = right + count;
-    machine
+    Move {
+        left,
+        right: right + count,
+        at: left - 1,
+        made: new_cell(size),
+        stays: p,
+    }
 }
 
 // p and the one after it become a new record of `size` bytes, and p goes to the one before.
-fn fused_ahead(mut machine: Machine, size: u32) -> Machine
-    requires { ⌜ (0 < machine .left) × (machine .left ≤ machine .right) × (machine .right < 4096) ⌝ }
-    ensures { λ r. ⌜ Moved machine r (fusedAhead machine size) (machine .left - 1) (machine .right) ⌝ }
+fn fused_ahead(left: usize, right: usize, before: Cell, size: u32) -> Move
+    requires { ⌜ (0 < left) × (right < 4096) ⌝ }
+    ensures { λ r. ⌜ r ≡ fusedAhead left right before size ⌝ }
 {
-    let before = machine.left - 1;
-    let right = machine.right;
-    let next = right + 1;
-    let kind = machine.kinds[before];
-    let moved = machine.sizes[before];
-    machine.kinds[next] = 0;
-    machine.sizes[next] = size;
-    machine.kinds[right] = kind;
-    machine.sizes[right] = moved;
-    machine.left = before;
-    machine
+    Move {
+        left: left - 1,
+        right,
+        at: right + 1,
+        made: new_cell(size),
+        stays: before,
+    }
 }
 
-// What an outcome makes of the list.
-fn carried(machine: Machine, outcome: Outcome) -> Machine
-    requires { ⌜ Reaches machine outcome ⌝ }
-    ensures { λ r. ⌜ Carried machine outcome r ⌝ }
+// What an outcome does to the list.
+fn move_of(left: usize, right: usize, sight: Sight, outcome: Outcome) -> Move
+    requires { ⌜ Reaches left right outcome ⌝ }
+    ensures { λ r. ⌜ r ≡ moveOf left right (sight .before) (sight .p) outcome ⌝ }
 {
     match outcome {
-        Outcome::Advance => advanced(machine),
+        Outcome::Advance => advanced(left, right, sight.p),
         Outcome::Merged(merge) => match merge {
-            Merge::Both(size) => fused_back(machine, size, 2),
-            Merge::Before(size) => fused_back(machine, size, 1),
-            Merge::After(size) => fused_ahead(machine, size),
-            Merge::Pair(size) => fused_ahead(machine, size),
+            Merge::Both(size) => fused_back(left, right, sight.p, size, 2),
+            Merge::Before(size) => fused_back(left, right, sight.p, size, 1),
+            Merge::After(size) => fused_ahead(left, right, sight.before, size),
+            Merge::Pair(size) => fused_ahead(left, right, sight.before, size),
         },
     }
 }
 
 // One look at p.
-fn look(machine: Machine, rates: Rates) -> Step
+fn look(mut machine: Machine, rates: Rates) -> Step
     requires { ⌜ Ready rates machine ⌝ }
     ensures { λ r. ⌜ Looked rates machine r ⌝ }
 {
     let left = machine.left;
     let right = machine.right;
-    if left == 0 {
-        let list = advanced(machine);
-        return Step {
-            outcome: Outcome::Advance,
-            list,
-            looks: 1,
-        };
-    }
-    let near = left - 1;
-    let before = Cell {
-        kind: machine.kinds[near],
-        size: machine.sizes[near],
-    };
-    let p = Cell {
-        kind: machine.kinds[right],
-        size: machine.sizes[right],
-    };
-    let next = right + 1;
-    let after = Cell {
-        kind: machine.kinds[next],
-        size: machine.sizes[next],
-    };
-    let mut second = Cell { kind: 2, size: 0 };
-    if right < 4096 {
-        let far = right + 2;
-        second = Cell {
-            kind: machine.kinds[far],
-            size: machine.sizes[far],
-        };
-    }
-    let outcome = outcome_at(rates, before, p, after, second);
-    let list = carried(machine, outcome);
+    let sight = sight_of(&machine.kinds, &machine.sizes, left, right);
+    let outcome = outcome_at(rates, sight.before, sight.p, sight.after, sight.second);
+    let next = move_of(left, right, sight, outcome);
+    let at = next.at;
+    machine.kinds[right] = next.stays.kind;
+    machine.sizes[right] = next.stays.size;
+    machine.kinds[at] = next.made.kind;
+    machine.sizes[at] = next.made.size;
+    machine.left = next.left;
+    machine.right = next.right;
     Step {
+        list: machine,
         outcome,
-        list,
         looks: 1,
     }
 }
@@ -225,7 +258,7 @@ fn run(machine: Machine, rates: Rates) -> Passed
         list = step.list;
         looks += step.looks;
     }
-    Passed { looks, list }
+    Passed { list, looks }
 }
 
 // The kind of a record: 0 new, 1 match.
