@@ -3,25 +3,26 @@
 -- Assumes nothing.
 use Prim.Native.Nat.{ℕ, _+_, _-_, _≤_, _<_}
 use native.Mathlib.Omega.{arith}
-use mathlib.Core.Path.{_≡_, refl, sym, ap, subst, _∙_}
-use mathlib.Core.Bool.{Bool, true, false}
+use mathlib.Core.Path.{_≡_, refl, sym, ap, _∙_}
+use mathlib.Core.Bool.{Bool, true, false, cond}
 use mathlib.Core.List.{List, [], _∷_}
 use lib.Dec.{ltb}
 use lib.ListN.{length, set, length-set}
 use borrow.Author.Tests.{ltb-true, ltb-false}
 use Rattle.price.specs.declared.Rates.{Rates}
-use Rattle.pass.specs.declared.Cell.{Cell}
+use Rattle.rules.specs.declared.Cell.{Cell}
+use Rattle.rules.specs.declared.Merge.the-variants.{Both, Before, After, Pair}
+use Rattle.rules.specs.declared.Outcome.{Outcome}
+use Rattle.rules.specs.declared.Outcome.the-variants.{Advance, Merged}
+use Rattle.rules.specs.Rules.{Item, new, match, neither, mark, size, isMatch, Tests, testsOf, outcomeAt, cellItem}
+use Rattle.rules.proofs.ByKind.{size-item, outcome-no-match}
 use Rattle.pass.specs.declared.Machine.{Machine}
-use Rattle.pass.specs.declared.Merge.the-variants.{Both, Before, After, Pair}
-use Rattle.pass.specs.declared.Outcome.{Outcome}
-use Rattle.pass.specs.declared.Outcome.the-variants.{Advance, Merged}
 use Rattle.pass.specs.declared.Sight.{Sight}
 use Rattle.pass.specs.declared.Move.{Move}
 use Rattle.pass.specs.declared.Step.{Step}
-use Rattle.pass.specs.Pass.{Item, new, mark, size, bytes, State, first, rest, isMatch, testsOf, outcomeAt, after, stepBack, mergeIn, ended}
-use Rattle.pass.specs.Machine.{itemOf, cellItem, itemAt, itemIn, below, fromPlace, leftOf, afterOf, stateOf, Sighted, goneOn, fusedBack, fusedAhead, moveOf, reach, Reaches, Ready, Looked}
+use Rattle.pass.specs.Pass.{bytes, first, rest, after, stepBack, mergeIn, ended}
+use Rattle.pass.specs.Machine.{itemAt, itemIn, below, fromPlace, leftOf, afterOf, stateOf, Sighted, goneOn, fusedBack, fusedAhead, moveOf, reach, Reaches, Ready, Looked}
 use Rattle.pass.proofs.Gap.{state-of, cons-of, ne-of-lt, at-other, at-same, below-next, below-set, below-put, fromPlace-next, fromPlace-none, fromPlace-set, fromPlace-put, rear-set}
-use Rattle.pass.proofs.ByKind.{size-item, outcome-no-match, reach-mark}
 
 -- ---- the first items around a place
 
@@ -201,6 +202,18 @@ reach-most (Merged (Both s)) = omega arith
 reach-most (Merged (Before s)) = omega arith
 reach-most (Merged (After s)) = omega arith
 reach-most (Merged (Pair s)) = omega arith
+
+-- next to the rear mark no merge reaches beyond p
+pub reach-mark : (t : Tests) (b p c : Item) → reach (outcomeAt t b p mark c) ≤ 1
+reach-mark t b (new s) c = omega arith
+reach-mark t b (neither s) c = omega arith
+reach-mark t (new a) (match s) c = go (t .side s)
+  where
+    go : (v : Bool) → reach (cond v (Merged (Before (a + s))) Advance) ≤ 1
+    go true = omega arith
+    go false = omega arith
+reach-mark t (match a) (match s) c = omega arith
+reach-mark t (neither a) (match s) c = omega arith
 
 -- where an outcome writes
 at-most : (l r : ℕ) (b p : Cell) (o : Outcome) → Reaches l r o → moveOf l r b p o .at ≤ 4097

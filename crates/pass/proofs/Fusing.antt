@@ -8,7 +8,8 @@ use mathlib.Core.Path.{_≡_, refl, _∙_, ap}
 use mathlib.Core.Bool.{false}
 use mathlib.Core.List.{List, [], _∷_}
 use lib.ListN.{length}
-use Rattle.pass.specs.Pass.{Item, new, match, neither, size, bytes, isNew, first, joined}
+use Rattle.rules.specs.Rules.{Item, new, match, neither, size, isNew}
+use Rattle.pass.specs.Pass.{bytes, first, joined}
 
 -- ---- what a list has to be
 

@@ -4,7 +4,6 @@ pub mod Running
 pub mod Recovering
 pub mod Theorems
 pub mod Gap
-pub mod ByKind
 pub mod Carrying
 pub mod Rounds
 pub mod Loading

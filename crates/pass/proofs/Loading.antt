@@ -10,9 +10,10 @@ use Rattle.format.specs.declared.Record.{Record}
 use Rattle.format.specs.Record.{rowAt, recordOf, recordsOf}
 use Rattle.format.specs.Meaning.{sizeOf}
 use Rattle.format.proofs.Rows.{recordsFrom, recordsFrom-next, recordsFrom-none, recordsFrom-all}
+use Rattle.rules.specs.Rules.{Item, mark, itemOf}
 use Rattle.pass.specs.declared.Machine.{Machine}
-use Rattle.pass.specs.Pass.{Item, mark, items, itemFor}
-use Rattle.pass.specs.Machine.{itemOf, itemAt, fromPlace, Loaded}
+use Rattle.pass.specs.Pass.{items, itemFor}
+use Rattle.pass.specs.Machine.{itemAt, fromPlace, Loaded}
 use Rattle.pass.proofs.Gap.{at-other, rear-set, fromPlace-none, fromPlace-put}
 
 -- the records from i on stand from `right` on, and the marks stand where they stay

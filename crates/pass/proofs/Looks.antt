@@ -6,9 +6,10 @@ use mathlib.Core.Path.{_≡_, refl}
 use mathlib.Core.Bool.{Bool, true, false, cond}
 use mathlib.Core.List.{List, [], _∷_}
 use lib.ListN.{length}
-use Rattle.pass.specs.declared.Merge.the-variants.{Both, Before, After, Pair}
-use Rattle.pass.specs.declared.Outcome.the-variants.{Advance, Merged}
-use Rattle.pass.specs.Pass.{Item, new, match, neither, isNew, first, Tests, Look, ended, lookAt, mergeIn, joined}
+use Rattle.rules.specs.declared.Merge.the-variants.{Both, Before, After, Pair}
+use Rattle.rules.specs.declared.Outcome.the-variants.{Advance, Merged}
+use Rattle.rules.specs.Rules.{Item, new, match, neither, isNew, Tests}
+use Rattle.pass.specs.Pass.{first, Look, ended, lookAt, mergeIn, joined}
 use Rattle.pass.proofs.Fusing.{Starts, Tidy, starts-cons, Turns, turns-refl, turns-joined, fuses-cons, fuse-both, fuse-before, fuse-after, fuse-pair}
 
 -- the tests are such that a merge lowers the weight, and merge 1 takes what merge 2 takes

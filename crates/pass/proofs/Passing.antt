@@ -10,9 +10,10 @@ use Rattle.format.specs.Limits.{versionMost}
 use Rattle.format.specs.Meaning.{whole}
 use Rattle.price.specs.declared.Rates.{Rates}
 use Rattle.price.specs.Price.{RatesFit}
+use Rattle.rules.specs.Rules.{Item, testsOf}
 use Rattle.pass.specs.declared.Machine.{Machine}
 use Rattle.pass.specs.declared.Passed.{Passed}
-use Rattle.pass.specs.Pass.{Item, items, bytes, rest, joined, testsOf, pass, endItems, passOutcomes, passLooks, passItems}
+use Rattle.pass.specs.Pass.{items, bytes, rest, joined, pass, endItems, passOutcomes, passLooks, passItems}
 use Rattle.pass.specs.Machine.{rightOf, endOf, Loaded, Runnable, Ran}
 use Rattle.pass.proofs.Theorems.{length-items, bytes-items}
 

@@ -17,10 +17,11 @@ use Rattle.format.proofs.Rows.{from-next, from-none, recordsFrom, recordsFrom-n
 use Rattle.choice.specs.Choice.{Bit, keep, store, bitByte, bitBytes, IsChoice}
 use Rattle.area.specs.Area.{pasted, over}
 use Rattle.area.proofs.Filling.{Filling, filling-start, filling-put, filling-end}
+use Rattle.rules.specs.Rules.{Item, new, match, neither, size, itemOf}
+use Rattle.rules.proofs.ByKind.{size-item, new-item}
 use Rattle.pass.specs.declared.Machine.{Machine}
-use Rattle.pass.specs.Pass.{Item, new, match, neither, size, shrunk, cut, bitFor, choiceOf}
-use Rattle.pass.specs.Machine.{itemOf, itemIn, endOf, Covering}
-use Rattle.pass.proofs.ByKind.{size-item, new-item}
+use Rattle.pass.specs.Pass.{shrunk, cut, bitFor, choiceOf}
+use Rattle.pass.specs.Machine.{itemIn, endOf, Covering}
 use Rattle.pass.proofs.Gap.{rest-below}
 
 -- ---- lengths, and one byte stored

@@ -10,7 +10,8 @@ use Rattle.format.specs.declared.Record.{Record}
 use Rattle.format.specs.declared.Record.the-variants.{New, Match}
 use Rattle.format.specs.WellFormed.{Sized}
 use Rattle.choice.specs.Choice.{IsChoice, fuse, listOf}
-use Rattle.pass.specs.Pass.{Item, new, match, size, isNew, first, items, cut, choiceOf}
+use Rattle.rules.specs.Rules.{Item, new, match, size, isNew}
+use Rattle.pass.specs.Pass.{first, items, cut, choiceOf}
 use Rattle.pass.proofs.Fusing.{Tidy, Fuses, none, takeNew, takeMatch, moreNew, moreMatch, keepMatch}
 
 items-fuse : (s : ℕ) (l : List Record) (is : List Item) → items l ≡ is → isNew (first is) ≡ false → items (fuse s l) ≡ new s ∷ is

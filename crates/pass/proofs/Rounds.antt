@@ -10,10 +10,11 @@ use Rattle.format.specs.Limits.{versionMost}
 use Rattle.format.proofs.Rows.{length-from}
 use Rattle.price.specs.declared.Rates.{Rates}
 use Rattle.price.specs.Price.{RatesFit}
+use Rattle.rules.specs.Rules.{Item, new, match, neither, mark, isMatch, testsOf}
 use Rattle.pass.specs.declared.Machine.{Machine}
 use Rattle.pass.specs.declared.Step.{Step}
 use Rattle.pass.specs.declared.Passed.{Passed}
-use Rattle.pass.specs.Pass.{Item, new, match, neither, mark, bytes, isMatch, State, Look, lookAt, testsOf, Run, stopped, preceded, run, pass}
+use Rattle.pass.specs.Pass.{bytes, State, Look, lookAt, Run, stopped, preceded, run, pass}
 use Rattle.pass.specs.Machine.{itemAt, itemIn, leftOf, rightOf, afterOf, Ready, Looked, Runnable, Ran}
 use Rattle.pass.proofs.Fusing.{Some, Starts, bytes-joined}
 use Rattle.pass.proofs.Looks.{seen, look-turns}

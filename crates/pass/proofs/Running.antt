@@ -6,7 +6,8 @@ use native.Mathlib.Omega.{arith}
 use mathlib.Core.Path.{_≡_, refl}
 use mathlib.Core.List.{List, [], _∷_}
 use lib.ListN.{length}
-use Rattle.pass.specs.Pass.{Item, mark, bytes, rest, Tests, Look, lookAt, mergeIn, mergesIn, Run, stopped, preceded, run, pass, joined, endItems}
+use Rattle.rules.specs.Rules.{Item, mark, Tests}
+use Rattle.pass.specs.Pass.{bytes, rest, Look, lookAt, mergeIn, mergesIn, Run, stopped, preceded, run, pass, joined, endItems}
 use Rattle.pass.proofs.Fusing.{Starts, Tidy, Fuses, none, keepMark, fuses-refl, weigh, length-joined, two-of-starts, Turns, turns-refl, turns-trans}
 use Rattle.pass.proofs.Looks.{Pays, Seen, seen, look-turns, look-nearer}
 

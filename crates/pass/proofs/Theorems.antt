@@ -1,22 +1,22 @@
 -- The theorems of the pass, at the rates r: it ends, within 2n - 1 looks; each merge lowers the cost; the end list has no two new
 -- items side by side and is the list of the pass's choice, which is a choice.
 -- Assumes nothing.
-use Prim.Native.Nat.{ℕ, suc, _+_, _-_, _*_, _≤_, _<_}
+use Prim.Native.Nat.{ℕ, suc, _+_, _-_, _*_, _≤_}
 use native.Mathlib.Omega.{arith}
-use mathlib.Core.Path.{_≡_, refl, sym, _∙_, ap}
-use mathlib.Core.Bool.{Bool, true, false}
+use mathlib.Core.Path.{_≡_, refl, _∙_, ap}
+use mathlib.Core.Bool.{false}
 use mathlib.Core.List.{List, [], _∷_}
-use lib.Dec.{ltb}
 use lib.ListN.{length}
-use borrow.Author.Tests.{ltb-true, ltb-false, lt-ltb, le-ltb}
+use borrow.Author.Tests.{ltb-true, lt-ltb}
 use Rattle.format.specs.declared.Record.{Record}
 use Rattle.format.specs.declared.Record.the-variants.{New, Match}
 use Rattle.format.specs.Meaning.{whole}
 use Rattle.format.specs.WellFormed.{Sized, NotNew, Apart}
 use Rattle.price.specs.declared.Rates.{Rates}
-use Rattle.price.specs.Price.{cost, ratesAt}
+use Rattle.price.specs.Price.{cost}
 use Rattle.choice.specs.Choice.{IsChoice, listOf}
-use Rattle.pass.specs.Pass.{Item, new, match, neither, isNew, first, items, bytes, testsOf, Look, lookAt, mergeIn, mergesIn, joined, pass, passOutcomes, passLooks, passItems, passChoice}
+use Rattle.rules.specs.Rules.{Item, new, match, neither, isNew, testsOf}
+use Rattle.pass.specs.Pass.{first, items, bytes, Look, lookAt, mergeIn, mergesIn, joined, pass, passOutcomes, passLooks, passItems, passChoice}
 use Rattle.pass.proofs.Fusing.{Starts, Tidy, weigh}
 use Rattle.pass.proofs.Looks.{Pays, seen, look-turns}
 use Rattle.pass.proofs.Running.{Passes, passes}
@@ -41,27 +41,6 @@ merges-pay r =
       before-pays = λ a b e. omega (arith, ltb-true (r .byte .0 * b) (r .kept .0) e);
       after-pays = λ b c e. omega (arith, ltb-true (r .byte .0 * b) (r .kept .0) e);
       pair-pays = λ b c e. omega (arith, ltb-true (r .byte .0 * (b + c) + r .fresh .0) (2 * r .kept .0) e);
-    }
-
--- the tests at the price p of an entry, as document 01 has them
-ltb-same : (a b m n : ℕ) → (a < b → m < n) → (b ≤ a → n ≤ m) → ltb a b ≡ ltb m n
-ltb-same a b m n f g = go (ltb a b) refl
-  where
-    go : (t : Bool) → ltb a b ≡ t → t ≡ ltb m n
-    go true e = sym (lt-ltb m n (f (ltb-true a b e)))
-    go false e = sym (le-ltb m n (g (ltb-false a b e)))
-
-pub record TestsAt (p : ℕ) : Type 0 where
-  pub lone-at : (s : ℕ) → testsOf (ratesAt p) .lone s ≡ ltb s (2 * p)
-  pub side-at : (s : ℕ) → testsOf (ratesAt p) .side s ≡ ltb s p
-  pub pair-at : (s : ℕ) → testsOf (ratesAt p) .pair s ≡ ltb s p
-
-pub tests-at : (p : ℕ) → TestsAt p
-tests-at p =
-    record {
-      lone-at = λ s. ltb-same (1 * s) (p + p) s (2 * p) (λ h. omega arith) (λ h. omega arith);
-      side-at = λ s. ltb-same (1 * s) p s p (λ h. omega arith) (λ h. omega arith);
-      pair-at = λ s. ltb-same (1 * s + p) (2 * p) s p (λ h. omega arith) (λ h. omega arith);
     }
 
 pub length-items : (rs : List Record) → length (items rs) ≡ length rs

@@ -3,34 +3,27 @@
 -- Assumes nothing.
 use Prim.Native.Nat.{ℕ, zero, suc, _+_, _-_, _*_, _≤_, _<_}
 use mathlib.Core.Path.{_≡_}
-use mathlib.Core.Bool.{false, cond}
+use mathlib.Core.Bool.{false}
 use mathlib.Core.List.{List, [], _∷_}
-use lib.Dec.{eqb}
 use lib.ListN.{length, getD}
 use Rattle.format.specs.Limits.{versionMost}
 use Rattle.format.specs.Record.{from, recordsOf}
 use Rattle.price.specs.declared.Rates.{Rates}
 use Rattle.price.specs.Price.{RatesFit}
 use Rattle.choice.specs.Choice.{IsChoice}
-use Rattle.pass.specs.declared.Cell.{Cell}
+use Rattle.rules.specs.declared.Cell.{Cell}
+use Rattle.rules.specs.declared.Merge.the-variants.{Both, Before, After, Pair}
+use Rattle.rules.specs.declared.Outcome.{Outcome}
+use Rattle.rules.specs.declared.Outcome.the-variants.{Advance, Merged}
+use Rattle.rules.specs.Rules.{Item, mark, isMatch, testsOf, cellItem}
 use Rattle.pass.specs.declared.Machine.{Machine}
-use Rattle.pass.specs.declared.Merge.the-variants.{Both, Before, After, Pair}
-use Rattle.pass.specs.declared.Outcome.{Outcome}
-use Rattle.pass.specs.declared.Outcome.the-variants.{Advance, Merged}
 use Rattle.pass.specs.declared.Sight.{Sight}
 use Rattle.pass.specs.declared.Move.{Move}
 use Rattle.pass.specs.declared.Step.{Step}
 use Rattle.pass.specs.declared.Passed.{Passed}
-use Rattle.pass.specs.Pass.{Item, new, match, neither, mark, isMatch, bytes, State, first, rest, testsOf, mergeIn, Look, lookAt, pass, joined, choiceOf}
+use Rattle.pass.specs.Pass.{bytes, State, first, rest, mergeIn, Look, lookAt, pass, joined, choiceOf}
 
--- kind 0 is new, 1 a match, any other neither
-abbrev pub itemOf : ℕ → ℕ → Item
-itemOf k s = cond (eqb k 0) (new s) (cond (eqb k 1) (match s) (neither s))
-
--- the item of a cell; the cell and the item at a place of two arrays
-abbrev pub cellItem : Cell → Item
-cellItem c = itemOf (c .kind) (c .size)
-
+-- the cell and the item at a place of two arrays
 abbrev pub cellAt : List ℕ → List ℕ → ℕ → Cell
 cellAt ks ss i = record { kind = getD ks i 0; size = getD ss i 0 }
 

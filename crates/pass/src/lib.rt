@@ -1,40 +1,22 @@
 // The pass: the linear method of source document 001, look by look, and the choice that its list stands for.
 //
-// In order: the carried list; what a look comes to; what it sees; the advance and the four merges; a look; the run; a list loaded; a choice read off; the pass.
-// Not here: what is refused. Callers hand in lists that were accepted.
+// In order: the carried list; what a look sees; the advance and the four merges; a look; the run; a list loaded; a choice read off; the pass.
+// Not here: what a look comes to (the crate rules), and what is refused. Callers hand in lists that were accepted.
 ghost use mathlib.Core.Path.{_≡_};
-ghost use Prim.Native.Nat.{_+_, _-_, _≤_, _<_};
+ghost use Prim.Native.Nat.{_+_, _≤_, _<_};
 ghost use lib.ListN.{length};
 ghost use Rattle.format.specs.Record.{recordsOf};
 ghost use Rattle.format.specs.Meaning.{sizeOf};
-ghost use Rattle.price.specs.Price.{RatesFit};
 ghost use Rattle.choice.specs.Choice.{bitByte, bitBytes};
 ghost use Rattle.area.specs.Area.{over};
-ghost use Rattle.pass.specs.Pass.{Item, new, match, mark, testsOf, outcomeAt, items, itemFor, bitFor, choiceOf, Passable, PassIn};
-ghost use Rattle.pass.specs.Machine.{itemOf, cellItem, cellAt, newCell, itemAt, rightOf, endOf, Sighted, goneOn, fusedBack, fusedAhead, moveOf, Reaches, Ready, Looked, Loaded, Runnable, Ran, Covering};
+ghost use Rattle.rules.specs.Rules.{mark, itemOf};
+ghost use Rattle.pass.specs.Pass.{items, itemFor, bitFor, choiceOf, Passable, PassIn};
+ghost use Rattle.pass.specs.Machine.{cellAt, newCell, itemAt, rightOf, endOf, Sighted, goneOn, fusedBack, fusedAhead, moveOf, Reaches, Ready, Looked, Loaded, Runnable, Ran, Covering};
 use format::Record;
-use price::DiskBytes;
 use price::Rates;
-
-// A merge, by what becomes one with p, and the bytes fused: the size of the record made.
-pub enum Merge {
-    Both(u32),
-    Before(u32),
-    After(u32),
-    Pair(u32),
-}
-
-// How a look ends.
-pub enum Outcome {
-    Advance,
-    Merged(Merge),
-}
-
-// A kind and a size: kind 0 is new, 1 a match, 2 a mark.
-pub struct Cell {
-    pub kind: u8,
-    pub size: u32,
-}
+use rules::Cell;
+use rules::Merge;
+use rules::Outcome;
 
 // The carried list: places 0 to left - 1 come before p, p stands at right, and place 4097 is the rear mark.
 pub struct Machine {
@@ -72,55 +54,6 @@ pub struct Step {
 pub struct Passed {
     pub list: Machine,
     pub looks: u32,
-}
-
-// Rules 1, 2 and 5 for a match of `size` bytes that stands after a new record of `before` bytes.
-fn after_new(rates: Rates, before: u32, size: u32, after: Cell) -> Outcome
-    requires { ⌜ (RatesFit rates) × (before + size + after .size ≤ 16777216) ⌝ }
-    ensures { λ r. ⌜ ((second : Item) → r ≡ outcomeAt (testsOf rates) (new before) (match size) (cellItem after) second) ⌝ }
-{
-    let bytes = price::storing(rates, size);
-    let both = DiskBytes(rates.kept.0 + rates.fresh.0);
-    if after.kind == 0 {
-        if bytes.0 < both.0 {
-            return Outcome::Merged(Merge::Both(before + size + after.size));
-        }
-        return Outcome::Advance;
-    }
-    if bytes.0 < rates.kept.0 {
-        return Outcome::Merged(Merge::Before(before + size));
-    }
-    Outcome::Advance
-}
-
-// The first of the five rules that applies to p, with the one before it, the one after it and the second after it.
-fn outcome_at(rates: Rates, before: Cell, p: Cell, after: Cell, second: Cell) -> Outcome
-    requires { ⌜ (RatesFit rates) × (before .size + p .size + after .size ≤ 16777216) ⌝ }
-    ensures { λ r. ⌜ r ≡ outcomeAt (testsOf rates) (cellItem before) (cellItem p) (cellItem after) (cellItem second) ⌝ }
-{
-    if p.kind != 1 {
-        return Outcome::Advance;
-    }
-    if before.kind == 0 {
-        return after_new(rates, before.size, p.size, after);
-    }
-    if after.kind == 0 {
-        if price::storing(rates, p.size).0 < rates.kept.0 {
-            return Outcome::Merged(Merge::After(p.size + after.size));
-        }
-        return Outcome::Advance;
-    }
-    if after.kind != 1 {
-        return Outcome::Advance;
-    }
-    if second.kind == 0 {
-        return Outcome::Advance;
-    }
-    let bytes = price::storing(rates, p.size + after.size);
-    if bytes.0 + rates.fresh.0 < 2 * rates.kept.0 {
-        return Outcome::Merged(Merge::Pair(p.size + after.size));
-    }
-    Outcome::Advance
 }
 
 // The cell at a place.
@@ -230,7 +163,7 @@ fn look(mut machine: Machine, rates: Rates) -> Step
     let left = machine.left;
     let right = machine.right;
     let sight = sight_of(&machine.kinds, &machine.sizes, left, right);
-    let outcome = outcome_at(rates, sight.before, sight.p, sight.after, sight.second);
+    let outcome = rules::outcome_at(rates, sight.before, sight.p, sight.after, sight.second);
     let next = move_of(left, right, sight, outcome);
     let at = next.at;
     machine.kinds[right] = next.stays.kind;

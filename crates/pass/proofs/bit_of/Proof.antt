@@ -4,7 +4,7 @@ use mathlib.Core.Bool.{Bool, cond}
 use borrow.Author.Tests.{eq-eqb, ne-eqb}
 use native.Mathlib.Omega.{arith}
 use Rattle.choice.specs.Choice.{keep, store, bitByte}
-use Rattle.pass.proofs.ByKind.{new-item}
+use Rattle.rules.proofs.ByKind.{new-item}
 use Rattle.pass.proofs.bit_of.Statement.{statement}
 use Rattle.pass.proofs.bit_of.Tie as tie
 

@@ -5,7 +5,8 @@ use mathlib.Core.List.{List}
 use Rattle.format.specs.Record.{recordsOf}
 use Rattle.choice.specs.Choice.{bitBytes}
 use Rattle.area.specs.Area.{over}
-use Rattle.pass.specs.Pass.{Item, choiceOf, passItems}
+use Rattle.rules.specs.Rules.{Item}
+use Rattle.pass.specs.Pass.{choiceOf, passItems}
 use Rattle.pass.specs.Machine.{endOf}
 use Rattle.pass.proofs.Theorems.{pass-holds}
 use Rattle.pass.proofs.Passing.{runnable-of-loaded, looks-of-ran, few-of-ran, end-of-ran}

@@ -2,7 +2,7 @@
 use mathlib.Core.Path.{ap, _∙_}
 use mathlib.Core.Logic.{⊎-elim}
 use native.Mathlib.Omega.{arith}
-use Rattle.pass.specs.Machine.{cellItem}
+use Rattle.rules.specs.Rules.{cellItem}
 use Rattle.pass.proofs.Carrying.{first-below, none-below, first-from, second-near, second-none}
 use borrow.Author.Needs.{needs}
 use Rattle.pass.proofs.sight_of.Statement.{statement}

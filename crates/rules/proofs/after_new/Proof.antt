@@ -1,15 +1,15 @@
--- `pass::after_new` meets its contract: each way out is the first rule that applies there, by kinds. Assumes nothing.
+-- `rules::after_new` meets its contract: each way out is the first rule that applies there, by kinds. Assumes nothing.
 use Prim.Native.Nat.{_+_, _*_}
 use native.Mathlib.Omega.{arith}
 use mathlib.Core.Path.{_≡_, sym, _∙_}
 use borrow.Author.Tests.{eq-eqb, ne-eqb, lt-ltb, le-ltb}
-use Rattle.pass.specs.declared.Merge.the-variants.{Both, Before}
-use Rattle.pass.specs.declared.Outcome.the-variants.{Advance, Merged}
-use Rattle.pass.specs.Pass.{testsOf}
-use Rattle.pass.proofs.ByKind.{and-false, not-one-of-zero, outcomeBy, outcome-by}
+use Rattle.rules.specs.declared.Merge.the-variants.{Both, Before}
+use Rattle.rules.specs.declared.Outcome.the-variants.{Advance, Merged}
+use Rattle.rules.specs.Rules.{testsOf}
+use Rattle.rules.proofs.ByKind.{and-false, not-one-of-zero, outcomeBy, outcome-by}
 use borrow.Author.Needs.{needs}
-use Rattle.pass.proofs.after_new.Statement.{statement}
-use Rattle.pass.proofs.after_new.Tie as tie
+use Rattle.rules.proofs.after_new.Statement.{statement}
+use Rattle.rules.proofs.after_new.Tie as tie
 
 storing-requires : tie.Need-storing-requires
 storing-requires c κs = search needs

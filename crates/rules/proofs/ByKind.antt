@@ -1,16 +1,14 @@
 -- An item by its kind and size, and the first rule that applies by kinds.
 -- Assumes nothing.
-use Prim.Native.Nat.{ℕ, _+_, _≤_}
-use native.Mathlib.Omega.{arith}
+use Prim.Native.Nat.{ℕ, _+_}
 use mathlib.Core.Path.{_≡_, refl, sym, ap, _∙_}
 use mathlib.Core.Bool.{Bool, true, false, not, _&&_, cond}
 use lib.Dec.{eqb}
 use borrow.Author.Tests.{eqb-true}
-use Rattle.pass.specs.declared.Merge.the-variants.{Both, Before, After, Pair}
-use Rattle.pass.specs.declared.Outcome.{Outcome}
-use Rattle.pass.specs.declared.Outcome.the-variants.{Advance, Merged}
-use Rattle.pass.specs.Pass.{Item, new, match, neither, mark, size, isNew, isMatch, Tests, outcomeAt}
-use Rattle.pass.specs.Machine.{itemOf, reach}
+use Rattle.rules.specs.declared.Merge.the-variants.{Both, Before, After, Pair}
+use Rattle.rules.specs.declared.Outcome.{Outcome}
+use Rattle.rules.specs.declared.Outcome.the-variants.{Advance, Merged}
+use Rattle.rules.specs.Rules.{Item, new, match, neither, size, isNew, isMatch, Tests, outcomeAt, itemOf}
 
 pub size-item : (k s : ℕ) → size (itemOf k s) ≡ s
 size-item k s = go (eqb k 0) (eqb k 1)
@@ -64,15 +62,3 @@ outcome-by t kb sb k s ka sa c = simp (new-item, match-item, size-item)
 -- what is no match is passed by
 pub outcome-no-match : (t : Tests) (b p a c : Item) → isMatch p ≡ false → outcomeAt t b p a c ≡ Advance
 outcome-no-match t b p a c h = simp h
-
--- next to the rear mark no merge reaches beyond p
-pub reach-mark : (t : Tests) (b p c : Item) → reach (outcomeAt t b p mark c) ≤ 1
-reach-mark t b (new s) c = omega arith
-reach-mark t b (neither s) c = omega arith
-reach-mark t (new a) (match s) c = go (t .side s)
-  where
-    go : (v : Bool) → reach (cond v (Merged (Before (a + s))) Advance) ≤ 1
-    go true = omega arith
-    go false = omega arith
-reach-mark t (match a) (match s) c = omega arith
-reach-mark t (neither a) (match s) c = omega arith

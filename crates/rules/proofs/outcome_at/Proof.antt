@@ -1,16 +1,15 @@
--- `pass::outcome_at` meets its contract: each way out is the first rule that applies there, by kinds. Assumes nothing.
+-- `rules::outcome_at` meets its contract: each way out is the first rule that applies there, by kinds. Assumes nothing.
 use Prim.Native.Nat.{_+_, _*_}
 use native.Mathlib.Omega.{arith}
 use mathlib.Core.Path.{_≡_, sym, ap₂, _∙_}
 use borrow.Author.Tests.{eq-eqb, ne-eqb, lt-ltb, le-ltb}
-use Rattle.pass.specs.declared.Merge.the-variants.{After, Pair}
-use Rattle.pass.specs.declared.Outcome.the-variants.{Advance, Merged}
-use Rattle.pass.specs.Pass.{Item, testsOf, outcomeAt}
-use Rattle.pass.specs.Machine.{cellItem}
-use Rattle.pass.proofs.ByKind.{new-item, item-of-zero, item-of-one, not-one-of-zero, outcomeBy, outcome-by}
+use Rattle.rules.specs.declared.Merge.the-variants.{After, Pair}
+use Rattle.rules.specs.declared.Outcome.the-variants.{Advance, Merged}
+use Rattle.rules.specs.Rules.{Item, testsOf, outcomeAt, cellItem}
+use Rattle.rules.proofs.ByKind.{new-item, item-of-zero, item-of-one, not-one-of-zero, outcomeBy, outcome-by}
 use borrow.Author.Needs.{needs}
-use Rattle.pass.proofs.outcome_at.Statement.{statement}
-use Rattle.pass.proofs.outcome_at.Tie as tie
+use Rattle.rules.proofs.outcome_at.Statement.{statement}
+use Rattle.rules.proofs.outcome_at.Tie as tie
 
 returns : tie.Need-returns
 returns c =

@@ -1,0 +1,82 @@
+-- Document 01, "Pass": what a look comes to. The items of the list, the sizes that the merges take, the first of the five rules that applies; and
+-- an item as a kind and a size hold it.
+-- Assumes nothing.
+use Prim.Native.Nat.{ℕ, _+_, _*_}
+use mathlib.Core.Bool.{Bool, true, false, not, _&&_, cond}
+use lib.Dec.{eqb, ltb}
+use Rattle.price.specs.declared.Rates.{Rates}
+use Rattle.rules.specs.declared.Cell.{Cell}
+use Rattle.rules.specs.declared.Merge.the-variants.{Both, Before, After, Pair}
+use Rattle.rules.specs.declared.Outcome.{Outcome}
+use Rattle.rules.specs.declared.Outcome.the-variants.{Advance, Merged}
+
+-- ---- the items of the list
+
+-- a new record, a match, or one of neither kind, each with its size
+pub data Item : Type 0 where
+  new : ℕ → Item
+  match : ℕ → Item
+  neither : ℕ → Item
+
+-- the front mark and the rear mark
+abbrev pub mark : Item
+mark = neither 0
+
+-- bytes covered
+abbrev pub size : Item → ℕ
+size (new s) = s
+size (match s) = s
+size (neither s) = s
+
+-- whether an item is new, and whether it is a match
+abbrev pub isNew : Item → Bool
+isNew (new s) = true
+isNew (match s) = false
+isNew (neither s) = false
+
+abbrev pub isMatch : Item → Bool
+isMatch (new s) = false
+isMatch (match s) = true
+isMatch (neither s) = false
+
+-- ---- a look: "the first that applies is done"
+
+-- the sizes that the merges take: `lone` in merge 1, `side` in merges 2 and 3, `pair` in merge 4, of both sizes together
+pub record Tests : Type 0 where
+  pub lone : ℕ → Bool
+  pub side : ℕ → Bool
+  pub pair : ℕ → Bool
+
+-- what the merge stores costs less than what it spares: a match and a new entry in merge 1, a match in merges 2 and 3, two matches for a new
+-- entry in merge 4; at the price P of an entry "size < 2P", "size < P", "the two sizes together < P" (`tests-at`)
+abbrev pub testsOf : Rates → Tests
+testsOf r =
+    record {
+      lone = λ s. ltb (r .byte .0 * s) (r .kept .0 + r .fresh .0);
+      side = λ s. ltb (r .byte .0 * s) (r .kept .0);
+      pair = λ s. ltb (r .byte .0 * s + r .fresh .0) (2 * r .kept .0);
+    }
+
+-- how a look at p ends, with b before it, a after it and c second after it; a merge with the bytes that it fuses:
+-- 1. "p is a match, both neighbours new, size < 2P"
+-- 2. "p is a match, the one before is new, size < P"
+-- 3. "p is a match, the one after is new, size < P"
+-- 4. "p and the one after are matches, neither the one before p nor the second after p is new, and the two sizes together < P"
+-- 5. "Otherwise p goes to the one after"
+abbrev pub outcomeAt : Tests → Item → Item → Item → Item → Outcome
+outcomeAt t b p a c =
+    cond (isMatch p && isNew b && isNew a && t .lone (size p)) (Merged (Both (size b + size p + size a)))
+    (cond (isMatch p && isNew b && t .side (size p)) (Merged (Before (size b + size p)))
+    (cond (isMatch p && isNew a && t .side (size p)) (Merged (After (size p + size a)))
+    (cond (isMatch p && isMatch a && not (isNew b) && not (isNew c) && t .pair (size p + size a)) (Merged (Pair (size p + size a)))
+    Advance)))
+
+-- ---- an item as a cell
+
+-- kind 0 is new, 1 a match, any other neither
+abbrev pub itemOf : ℕ → ℕ → Item
+itemOf k s = cond (eqb k 0) (new s) (cond (eqb k 1) (match s) (neither s))
+
+-- the item of a cell
+abbrev pub cellItem : Cell → Item
+cellItem c = itemOf (c .kind) (c .size)
