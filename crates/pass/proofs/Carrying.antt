@@ -21,7 +21,7 @@ use Rattle.pass.specs.declared.Sight.{Sight}
 use Rattle.pass.specs.declared.Move.{Move}
 use Rattle.pass.specs.declared.Step.{Step}
 use Rattle.pass.specs.Pass.{bytes, first, rest, after, stepBack, mergeIn, ended}
-use Rattle.pass.specs.Machine.{itemAt, itemIn, below, fromPlace, leftOf, afterOf, stateOf, Sighted, goneOn, fusedBack, fusedAhead, moveOf, reach, Reaches, Ready, Looked}
+use Rattle.pass.specs.Machine.{itemAt, itemIn, below, fromPlace, leftOf, afterOf, stateOf, Sighted, newCell, goneOn, fusedBack, fusedAhead, moveOf, reach, Reaches, Ready, Looked}
 use Rattle.pass.proofs.Gap.{state-of, cons-of, ne-of-lt, at-other, at-same, below-next, below-set, below-put, fromPlace-next, fromPlace-none, fromPlace-set, fromPlace-put, rear-set}
 
 -- ---- the first items around a place
@@ -132,18 +132,18 @@ module _ (m : Machine) (hk : length (m .kinds) ≡ 4098) (hs : length (m .sizes)
 module _ (m : Machine) (hk : length (m .kinds) ≡ 4098) (hs : length (m .sizes) ≡ 4098) (s : Sight) (w : Sighted (m .kinds) (m .sizes) (m .left) (m .right) s) where
   -- the one before p becomes a new record of n bytes, and p goes k on
   back : (n k : ℕ) → 0 < m .left → m .left ≤ m .right → 0 < k → m .right + k ≤ 4097
-      → stateOf (moved m (fusedBack (m .left) (m .right) (s .p) n k)) ≡ record { left = new n ∷ rest (leftOf m); right = fromPlace (m .kinds) (m .sizes) (m .right + k) }
+      → stateOf (moved m (fusedBack (m .left) (m .right) (s .p) (newCell n) k)) ≡ record { left = new n ∷ rest (leftOf m); right = fromPlace (m .kinds) (m .sizes) (m .right + k) }
   back n k some g pos h =
-      let v = fusedBack (m .left) (m .right) (s .p) n k in
+      let v = fusedBack (m .left) (m .right) (s .p) (newCell n) k in
       state-of
       (put-left m hk hs v (omega arith) (omega arith) (omega arith) ∙ cons-of refl (sym (ap rest (below-next (m .kinds) (m .sizes) (m .left) some))))
       (put-right m hk hs v (omega arith) (omega arith) (omega arith))
 
   -- p and the one after it become a new record of n bytes, and p goes to the one before
   ahead : (n : ℕ) → 0 < m .left → m .left ≤ m .right → m .right < 4096
-      → stateOf (moved m (fusedAhead (m .left) (m .right) (s .before) n)) ≡ stepBack (leftOf m) (new n ∷ rest (afterOf m))
+      → stateOf (moved m (fusedAhead (m .left) (m .right) (s .before) (newCell n))) ≡ stepBack (leftOf m) (new n ∷ rest (afterOf m))
   ahead n some g h =
-      let v = fusedAhead (m .left) (m .right) (s .before) n in
+      let v = fusedAhead (m .left) (m .right) (s .before) (newCell n) in
       let opened = below-next (m .kinds) (m .sizes) (m .left) some in
       state-of
       (ahead-left m hk hs v (omega arith) refl h (omega arith))
@@ -166,28 +166,28 @@ module _ (m : Machine) (hk : length (m .kinds) ≡ 4098) (hs : length (m .sizes)
         holds = back n 2 (omega (arith, h .behind)) (h .gap) (omega arith) (omega (arith, h .ahead)) ∙ state-of refl (sym (rest-after (m .kinds) (m .sizes) (m .right)));
         gap = omega (arith, h .gap);
         within = omega (arith, h .ahead);
-        rear-kept = put-rear m hk hs (fusedBack (m .left) (m .right) (s .p) n 2) (omega (arith, h .ahead)) (omega (arith, h .gap, h .ahead));
+        rear-kept = put-rear m hk hs (fusedBack (m .left) (m .right) (s .p) (newCell n) 2) (omega (arith, h .ahead)) (omega (arith, h .gap, h .ahead));
       }
   carried (Merged (Before n)) h =
       record {
         holds = back n 1 (omega (arith, h .behind)) (h .gap) (omega arith) (omega (arith, h .ahead));
         gap = omega (arith, h .gap);
         within = omega (arith, h .ahead);
-        rear-kept = put-rear m hk hs (fusedBack (m .left) (m .right) (s .p) n 1) (omega (arith, h .ahead)) (omega (arith, h .gap, h .ahead));
+        rear-kept = put-rear m hk hs (fusedBack (m .left) (m .right) (s .p) (newCell n) 1) (omega (arith, h .ahead)) (omega (arith, h .gap, h .ahead));
       }
   carried (Merged (After n)) h =
       record {
         holds = ahead n (omega (arith, h .behind)) (h .gap) (omega (arith, h .ahead));
         gap = omega (arith, h .gap);
         within = omega (arith, h .ahead);
-        rear-kept = put-rear m hk hs (fusedAhead (m .left) (m .right) (s .before) n) (omega (arith, h .ahead)) (omega (arith, h .ahead));
+        rear-kept = put-rear m hk hs (fusedAhead (m .left) (m .right) (s .before) (newCell n)) (omega (arith, h .ahead)) (omega (arith, h .ahead));
       }
   carried (Merged (Pair n)) h =
       record {
         holds = ahead n (omega (arith, h .behind)) (h .gap) (omega (arith, h .ahead));
         gap = omega (arith, h .gap);
         within = omega (arith, h .ahead);
-        rear-kept = put-rear m hk hs (fusedAhead (m .left) (m .right) (s .before) n) (omega (arith, h .ahead)) (omega (arith, h .ahead));
+        rear-kept = put-rear m hk hs (fusedAhead (m .left) (m .right) (s .before) (newCell n)) (omega (arith, h .ahead)) (omega (arith, h .ahead));
       }
 
 -- ---- a look, from what it sees

@@ -63,28 +63,28 @@ pub record Sighted (ks ss : List ℕ) (left right : ℕ) (s : Sight) : Type 0 wh
   pub after-is : cellItem (s .after) ≡ first (fromPlace ks ss (right + 1))
   pub second-is : cellItem (s .second) ≡ first (rest (fromPlace ks ss (right + 1)))
 
+-- the three moves, from a cursor l and r with the cells b before p and p: p goes to the one after; the one before p becomes c, and p goes n on; p
+-- and the one after it become c, and p goes to the one before
+abbrev pub goneOn : ℕ → ℕ → Cell → Move
+goneOn l r p = record { left = l + 1; right = r + 1; at = l; made = p; stays = p }
+
+abbrev pub fusedBack : ℕ → ℕ → Cell → Cell → ℕ → Move
+fusedBack l r p c n = record { left = l; right = r + n; at = l - 1; made = c; stays = p }
+
+abbrev pub fusedAhead : ℕ → ℕ → Cell → Cell → Move
+fusedAhead l r b c = record { left = l - 1; right = r; at = r + 1; made = c; stays = b }
+
 -- a new record of s bytes
 abbrev pub newCell : ℕ → Cell
 newCell s = record { kind = 0; size = s }
 
--- the three moves, from a cursor l and r with the cells b before p and p: p goes to the one after; the one before p becomes a new record of s
--- bytes, and p goes n on; p and the one after it become a new record of s bytes, and p goes to the one before
-abbrev pub goneOn : ℕ → ℕ → Cell → Move
-goneOn l r p = record { left = l + 1; right = r + 1; at = l; made = p; stays = p }
-
-abbrev pub fusedBack : ℕ → ℕ → Cell → ℕ → ℕ → Move
-fusedBack l r p s n = record { left = l; right = r + n; at = l - 1; made = newCell s; stays = p }
-
-abbrev pub fusedAhead : ℕ → ℕ → Cell → ℕ → Move
-fusedAhead l r b s = record { left = l - 1; right = r; at = r + 1; made = newCell s; stays = b }
-
 -- the move of an outcome
 abbrev pub moveOf : ℕ → ℕ → Cell → Cell → Outcome → Move
 moveOf l r b p Advance = goneOn l r p
-moveOf l r b p (Merged (Both s)) = fusedBack l r p s 2
-moveOf l r b p (Merged (Before s)) = fusedBack l r p s 1
-moveOf l r b p (Merged (After s)) = fusedAhead l r b s
-moveOf l r b p (Merged (Pair s)) = fusedAhead l r b s
+moveOf l r b p (Merged (Both s)) = fusedBack l r p (newCell s) 2
+moveOf l r b p (Merged (Before s)) = fusedBack l r p (newCell s) 1
+moveOf l r b p (Merged (After s)) = fusedAhead l r b (newCell s)
+moveOf l r b p (Merged (Pair s)) = fusedAhead l r b (newCell s)
 
 -- the items from p on that an outcome takes up
 abbrev pub reach : Outcome → ℕ

@@ -11,7 +11,7 @@ ghost use Rattle.choice.specs.Choice.{bitByte, bitBytes};
 ghost use Rattle.area.specs.Area.{over};
 ghost use Rattle.rules.specs.Rules.{mark, itemOf};
 ghost use Rattle.pass.specs.Pass.{items, itemFor, bitFor, choiceOf, Passable, PassIn};
-ghost use Rattle.pass.specs.Machine.{cellAt, newCell, itemAt, rightOf, endOf, Sighted, goneOn, fusedBack, fusedAhead, moveOf, Reaches, Ready, Looked, Loaded, Runnable, Ran, Covering};
+ghost use Rattle.pass.specs.Machine.{cellAt, itemAt, rightOf, endOf, Sighted, goneOn, fusedBack, fusedAhead, moveOf, Reaches, Ready, Looked, Loaded, Runnable, Ran, Covering};
 use format::Record;
 use price::Rates;
 use rules::Cell;
@@ -104,42 +104,35 @@ fn advanced(left: usize, right: usize, p: Cell) -> Move
     }
 }
 
-// A new record of `size` bytes.
-fn new_cell(size: u32) -> Cell
-    ensures { λ r. ⌜ r ≡ newCell size ⌝ }
-{
-    Cell { kind: 0, size }
-}
-
-// The one before p becomes a new record of `size` bytes, and p goes `count` on.
-fn fused_back(left: usize, right: usize, p: Cell, size: u32, count: usize) -> Move
+// The one before p becomes `made`, and p goes `count` on.
+fn fused_back(left: usize, right: usize, p: Cell, made: Cell, count: usize) -> Move
     requires { ⌜ (0 < left) × (right + count ≤ 4097) ⌝ }
-    ensures { λ r. ⌜ r ≡ fusedBack left right p size count ⌝ }
+    ensures { λ r. ⌜ r ≡ fusedBack left right p made count ⌝ }
 {
     Move {
         left,
         right: right + count,
         at: left - 1,
-        made: new_cell(size),
+        made,
         stays: p,
     }
 }
 
-// p and the one after it become a new record of `size` bytes, and p goes to the one before.
-fn fused_ahead(left: usize, right: usize, before: Cell, size: u32) -> Move
+// p and the one after it become `made`, and p goes to the one before.
+fn fused_ahead(left: usize, right: usize, before: Cell, made: Cell) -> Move
     requires { ⌜ (0 < left) × (right < 4096) ⌝ }
-    ensures { λ r. ⌜ r ≡ fusedAhead left right before size ⌝ }
+    ensures { λ r. ⌜ r ≡ fusedAhead left right before made ⌝ }
 {
     Move {
         left: left - 1,
         right,
         at: right + 1,
-        made: new_cell(size),
+        made,
         stays: before,
     }
 }
 
-// What an outcome does to the list.
+// What an outcome does to the list: a merge makes a new record of the bytes that it fuses.
 fn move_of(left: usize, right: usize, sight: Sight, outcome: Outcome) -> Move
     requires { ⌜ Reaches left right outcome ⌝ }
     ensures { λ r. ⌜ r ≡ moveOf left right (sight .before) (sight .p) outcome ⌝ }
@@ -147,10 +140,10 @@ fn move_of(left: usize, right: usize, sight: Sight, outcome: Outcome) -> Move
     match outcome {
         Outcome::Advance => advanced(left, right, sight.p),
         Outcome::Merged(merge) => match merge {
-            Merge::Both(size) => fused_back(left, right, sight.p, size, 2),
-            Merge::Before(size) => fused_back(left, right, sight.p, size, 1),
-            Merge::After(size) => fused_ahead(left, right, sight.before, size),
-            Merge::Pair(size) => fused_ahead(left, right, sight.before, size),
+            Merge::Both(size) => fused_back(left, right, sight.p, Cell { kind: 0, size }, 2),
+            Merge::Before(size) => fused_back(left, right, sight.p, Cell { kind: 0, size }, 1),
+            Merge::After(size) => fused_ahead(left, right, sight.before, Cell { kind: 0, size }),
+            Merge::Pair(size) => fused_ahead(left, right, sight.before, Cell { kind: 0, size }),
         },
     }
 }
