@@ -73,7 +73,7 @@ fn called(
     if block.len() < b {
         return format::refused(Fault::TooLong);
     }
-    least::partition(
+    call_partition::partition(
         Price { e: ask.e, f: ask.f },
         list,
         version,

@@ -11,8 +11,8 @@ use Rattle.area.specs.Area.{Areas}
 use Rattle.choice.specs.Choice.{Bit}
 use Rattle.admit.specs.Admit.{partitionRuling}
 use Rattle.writer.specs.Decide.{decidedAnswer, decidedAreas}
-use Rattle.least.specs.Partition.{leastOf}
-use Rattle.linear.specs.Linear.{passChoiceOf, passLooksOf}
+use Rattle.call_partition.specs.Partition.{leastOf}
+use Rattle.call_pass.specs.Pass.{passChoiceOf, passLooksOf}
 use Rattle.answer.specs.Layout.{Answered, lent}
 
 -- for the ruling q, the rates, the choice c and the looks it took

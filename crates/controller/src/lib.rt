@@ -57,7 +57,7 @@ pub extern "C" fn partition(
         return 9;
     }
     answer::give(
-        least::partition(Price { e, f }, list, version, store, choice, area, block),
+        call_partition::partition(Price { e, f }, list, version, store, choice, area, block),
         answer,
     )
 }
@@ -81,7 +81,7 @@ pub extern "C" fn pass(
         return 9;
     }
     answer::give(
-        linear::pass(Price { e, f }, list, version, store, choice, area, block),
+        call_pass::pass(Price { e, f }, list, version, store, choice, area, block),
         answer,
     )
 }

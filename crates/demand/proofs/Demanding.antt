@@ -25,9 +25,9 @@ use Rattle.admit.proofs.Admitting.{Sound, sound-of-fine, admitted-of-fine, find
 use Rattle.writer.specs.Decide.{figures, laid}
 use Rattle.writer.proofs.Deciding.{decided-answer, decided-areas, list-handed-on, block-handed-on, block-within}
 use Rattle.rebuild.specs.Rebuild.{rebuildRuling, lengthOnly, Rebuilt}
-use Rattle.least.specs.Partition.{leastOf, Partitioned}
-use Rattle.pass.proofs.Theorems.{PassHolds, pass-holds}
-use Rattle.linear.specs.Linear.{passChoiceOf, passLooksOf}
+use Rattle.call_partition.specs.Partition.{leastOf, Partitioned}
+use Rattle.linear.proofs.Theorems.{PassHolds, pass-holds}
+use Rattle.call_pass.specs.Pass.{passChoiceOf, passLooksOf}
 use Rattle.demand.specs.Demand.{Call, Calls, writtenList, writtenBlock, Made, Room, Demand, DemandThree, Demonstrated}
 use Rattle.demand.proofs.Written.{whole-written, rebuilt-written, rebuild-accepts, partition-accepts, least-again, list-again}
 

@@ -1,7 +1,7 @@
 -- The table of worked examples holds of the definitions, in one theorem.
 -- Assumes nothing.
 use mathlib.Core.Path.{refl}
-use Rattle.pass.specs.Pass.{run, pass, endItems, passOutcomes, choiceOf}
+use Rattle.linear.specs.Pass.{run, pass, endItems, passOutcomes, choiceOf}
 use Rattle.demand.specs.Worked.{TableHolds}
 
 pub table-holds : TableHolds

@@ -29,7 +29,7 @@ use Rattle.admit.specs.Admit.{partitionRuling, LongEnough}
 use Rattle.admit.proofs.Admitting.{Sound, fine-of-written}
 use Rattle.rebuild.specs.Rebuild.{rebuildRuling}
 use Rattle.rebuild.proofs.Accepting.{inputs-written, rebuild-fine}
-use Rattle.least.specs.Partition.{leastOf}
+use Rattle.call_partition.specs.Partition.{leastOf}
 
 -- of any choice
 module _ {list v st : List ℕ} {c a b : ℕ} (s : Sound list v st c a b) (d : List Bit) (h : IsChoice (recordsOf list) d) where

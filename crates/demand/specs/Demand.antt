@@ -18,8 +18,8 @@ use Rattle.choice.specs.Choice.{Bit, listOf, IsLeast, keepAll}
 use Rattle.admit.specs.Admit.{findings, LongEnough}
 use Rattle.writer.specs.Decide.{figures, laid}
 use Rattle.rebuild.specs.Rebuild.{lengthOnly, Rebuilt}
-use Rattle.least.specs.Partition.{Partitioned}
-use Rattle.linear.specs.Linear.{passChoiceOf, passLooksOf, PassMade}
+use Rattle.call_partition.specs.Partition.{Partitioned}
+use Rattle.call_pass.specs.Pass.{passChoiceOf, passLooksOf, PassMade}
 use Rattle.demand.specs.declared.Answers.{Answers}
 
 -- a call of partition or pass: its areas before it, its answer, its areas after it

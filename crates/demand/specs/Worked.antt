@@ -8,7 +8,7 @@ use Rattle.format.specs.declared.Record.the-variants.{New, Match}
 use Rattle.price.specs.declared.Rates.{Rates}
 use Rattle.price.specs.Price.{ratesOf}
 use Rattle.choice.specs.Choice.{Bit, keep, store, costOf, least}
-use Rattle.pass.specs.Pass.{passChoice, passLooks}
+use Rattle.linear.specs.Pass.{passChoice, passLooks}
 
 pub record Worked : Type 0 where
   pub list : List Record

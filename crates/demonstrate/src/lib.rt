@@ -2,7 +2,7 @@
 // they are. Its contract says that each is that call, and that the statement holds of them.
 ghost use Rattle.area.specs.Area.{areas};
 ghost use Rattle.rebuild.specs.Rebuild.{Rebuilt};
-ghost use Rattle.least.specs.Partition.{Partitioned};
+ghost use Rattle.call_partition.specs.Partition.{Partitioned};
 ghost use Rattle.demand.specs.Demand.{callsOf, Demonstrated};
 use demand::Answers;
 use format::Answer;
@@ -30,7 +30,7 @@ fn hand_on<'a>(
     ensures { λ r. ⌜ Partitioned price (now (list .entry)) (now (version .entry)) (now (store .entry)) (areas (now (choice2 .entry)) (now (area2 .entry)) (now (block2 .entry))) (r .again) (areas (now (choice2 .exit)) (now (area2 .exit)) (now (block2 .exit))) ⌝ }
 {
     let rebuilt = rebuild::rebuild(list, block, store, out);
-    let again = least::partition(price, list, version, store, choice2, area2, block2);
+    let again = call_partition::partition(price, list, version, store, choice2, area2, block2);
     Both { rebuilt, again }
 }
 
@@ -53,7 +53,7 @@ pub fn demonstrate<'a>(
 ) -> Answers
     ensures { λ r. ⌜ Demonstrated price (now (list .entry)) (now (version .entry)) (now (store .entry)) (callsOf r (areas (now (choice .entry)) (now (area .entry)) (now (block .entry))) (areas (now (choice .exit)) (now (area .exit)) (now (block .exit))) (now (out .entry)) (now (out .exit)) (areas (now (choice2 .entry)) (now (area2 .entry)) (now (block2 .entry))) (areas (now (choice2 .exit)) (now (area2 .exit)) (now (block2 .exit))) (areas (now (choice3 .entry)) (now (area3 .entry)) (now (block3 .entry))) (areas (now (choice3 .exit)) (now (area3 .exit)) (now (block3 .exit)))) ⌝ }
 {
-    let first = least::partition(price, list, version, store, choice, area, block);
+    let first = call_partition::partition(price, list, version, store, choice, area, block);
     let figures = format::figures_of(first);
     let n = 12 * format::index(figures.entries);
     let m = format::index(figures.stored);
@@ -70,7 +70,7 @@ pub fn demonstrate<'a>(
     );
     let rebuilt = both.rebuilt;
     let again = both.again;
-    let passed = linear::pass(price, list, version, store, choice3, area3, block3);
+    let passed = call_pass::pass(price, list, version, store, choice3, area3, block3);
     Answers {
         first,
         rebuilt,

@@ -1,1 +1,2 @@
-pub mod Linear
+pub mod Pass
+pub mod Machine

@@ -1,33 +1,263 @@
-// The call pass: the published linear method, with the list and the stored block of the choice that it leaves.
-ghost use Rattle.area.specs.Area.{areas};
-ghost use Rattle.linear.specs.Linear.{PassMade};
-use format::Answer;
-use format::Fault;
-use price::Price;
-use price::Priced;
-use walk::Walked;
+// The pass: the linear method of source document 001, look by look, and the choice that its list stands for.
+//
+// In order: the carried list; what a look sees; the advance and the four merges; a look; the run; a list loaded; a choice read off; the pass.
+// Not here: what a look comes to (the crate rules), and what is refused. Callers hand in lists that were accepted.
+ghost use mathlib.Core.Path.{_≡_};
+ghost use Prim.Native.Nat.{_+_, _≤_, _<_};
+ghost use lib.ListN.{length};
+ghost use Rattle.format.specs.Record.{recordsOf};
+ghost use Rattle.format.specs.Meaning.{sizeOf};
+ghost use Rattle.choice.specs.Choice.{bitByte, bitBytes};
+ghost use Rattle.area.specs.Area.{over};
+ghost use Rattle.rules.specs.Rules.{mark, itemOf};
+ghost use Rattle.linear.specs.Pass.{items, itemFor, bitFor, choiceOf, Passable, PassIn};
+ghost use Rattle.linear.specs.Machine.{cellAt, itemAt, rightOf, endOf, Sighted, goneOn, fusedBack, fusedAhead, moveOf, Reaches, Ready, Looked, Loaded, Runnable, Ran, Covering};
+use format::Record;
+use price::Rates;
+use rules::Cell;
+use rules::Merge;
+use rules::Outcome;
 
-// Pass: the choice of the machine's last list, its list and its stored block, each over the front of its area, and the looks it took; nothing is
-// written where it refuses.
-pub fn pass(
-    price: Price,
-    list: &[u8],
-    version: &[u8],
-    store: &[u8],
-    choice: &mut [u8],
-    area: &mut [u8],
-    block: &mut [u8],
-) -> Answer
-    ensures { λ r. ⌜ PassMade price (now (list .entry)) (now (version .entry)) (now (store .entry)) (areas (now (choice .entry)) (now (area .entry)) (now (block .entry))) r (areas (now (choice .exit)) (now (area .exit)) (now (block .exit))) ⌝ }
+// The carried list: places 0 to left - 1 come before p, p stands at right, and place 4097 is the rear mark.
+pub struct Machine {
+    pub kinds: [u8; 4098],
+    pub sizes: [u32; 4098],
+    pub left: usize,
+    pub right: usize,
+}
+
+// What a look sees: p, with the one before it, the one after it and the second after it.
+pub struct Sight {
+    pub before: Cell,
+    pub p: Cell,
+    pub after: Cell,
+    pub second: Cell,
+}
+
+// What an outcome does to the list: p's place gets `stays`, then the place `at` gets `made`, and the cursor goes to `left` and `right`.
+pub struct Move {
+    pub left: usize,
+    pub right: usize,
+    pub at: usize,
+    pub made: Cell,
+    pub stays: Cell,
+}
+
+// The list after a look, with what came of the look and what it counts. (The list first: the compiler then spares the copies between looks.)
+pub struct Step {
+    pub list: Machine,
+    pub outcome: Outcome,
+    pub looks: u32,
+}
+
+// The list at the end, with the number of looks.
+pub struct Passed {
+    pub list: Machine,
+    pub looks: u32,
+}
+
+// The cell at a place.
+fn cell_at<'a>(kinds: &'a [u8; 4098], sizes: &'a [u32; 4098], at: usize) -> Cell
+    requires { ⌜ at < 4098 ⌝ }
+    ensures { λ r. ⌜ r ≡ cellAt (now (kinds .entry)) (now (sizes .entry)) at ⌝ }
 {
-    let priced = price::rates_of(price);
-    let Priced::At(rates) = priced else {
-        return format::refused(Fault::Price);
-    };
-    let w = admit::admit(list, version, store, choice.len(), area.len(), block.len());
-    let Walked::Through(_totals) = w else {
-        return Answer::Refused(walk::refusal_of(w));
-    };
-    let looks = pass::pass_choice(rates, list, choice);
-    writer::finish(rates, list, choice, version, area, block, looks)
+    Cell {
+        kind: kinds[at],
+        size: sizes[at],
+    }
+}
+
+// What a look sees from a cursor: a mark where there is nothing.
+fn sight_of<'a>(kinds: &'a [u8; 4098], sizes: &'a [u32; 4098], left: usize, right: usize) -> Sight
+    requires { ⌜ (right < 4097) × (left ≤ right) × (itemAt (now kinds) (now sizes) 4097 ≡ mark) ⌝ }
+    ensures { λ r. ⌜ Sighted (now (kinds .entry)) (now (sizes .entry)) left right r ⌝ }
+{
+    let mut before = Cell { kind: 2, size: 0 };
+    if 0 < left {
+        before = cell_at(kinds, sizes, left - 1);
+    }
+    let mut second = Cell { kind: 2, size: 0 };
+    if right < 4096 {
+        second = cell_at(kinds, sizes, right + 2);
+    }
+    let p = cell_at(kinds, sizes, right);
+    let after = cell_at(kinds, sizes, right + 1);
+    Sight {
+        before,
+        p,
+        after,
+        second,
+    }
+}
+
+// p goes to the one after.
+fn advanced(left: usize, right: usize, p: Cell) -> Move
+    requires { ⌜ (left ≤ right) × (right < 4097) ⌝ }
+    ensures { λ r. ⌜ r ≡ goneOn left right p ⌝ }
+{
+    Move {
+        left: left + 1,
+        right: right + 1,
+        at: left,
+        made: p,
+        stays: p,
+    }
+}
+
+// The one before p becomes `made`, and p goes `count` on.
+fn fused_back(left: usize, right: usize, p: Cell, made: Cell, count: usize) -> Move
+    requires { ⌜ (0 < left) × (right + count ≤ 4097) ⌝ }
+    ensures { λ r. ⌜ r ≡ fusedBack left right p made count ⌝ }
+{
+    Move {
+        left,
+        right: right + count,
+        at: left - 1,
+        made,
+        stays: p,
+    }
+}
+
+// p and the one after it become `made`, and p goes to the one before.
+fn fused_ahead(left: usize, right: usize, before: Cell, made: Cell) -> Move
+    requires { ⌜ (0 < left) × (right < 4096) ⌝ }
+    ensures { λ r. ⌜ r ≡ fusedAhead left right before made ⌝ }
+{
+    Move {
+        left: left - 1,
+        right,
+        at: right + 1,
+        made,
+        stays: before,
+    }
+}
+
+// What an outcome does to the list: a merge makes a new record of the bytes that it fuses.
+fn move_of(left: usize, right: usize, sight: Sight, outcome: Outcome) -> Move
+    requires { ⌜ Reaches left right outcome ⌝ }
+    ensures { λ r. ⌜ r ≡ moveOf left right (sight .before) (sight .p) outcome ⌝ }
+{
+    match outcome {
+        Outcome::Advance => advanced(left, right, sight.p),
+        Outcome::Merged(merge) => match merge {
+            Merge::Both(size) => fused_back(left, right, sight.p, Cell { kind: 0, size }, 2),
+            Merge::Before(size) => fused_back(left, right, sight.p, Cell { kind: 0, size }, 1),
+            Merge::After(size) => fused_ahead(left, right, sight.before, Cell { kind: 0, size }),
+            Merge::Pair(size) => fused_ahead(left, right, sight.before, Cell { kind: 0, size }),
+        },
+    }
+}
+
+// One look at p.
+fn look(mut machine: Machine, rates: Rates) -> Step
+    requires { ⌜ Ready rates machine ⌝ }
+    ensures { λ r. ⌜ Looked rates machine r ⌝ }
+{
+    let left = machine.left;
+    let right = machine.right;
+    let sight = sight_of(&machine.kinds, &machine.sizes, left, right);
+    let outcome = rules::outcome_at(rates, sight.before, sight.p, sight.after, sight.second);
+    let next = move_of(left, right, sight, outcome);
+    let at = next.at;
+    machine.kinds[right] = next.stays.kind;
+    machine.sizes[right] = next.stays.size;
+    machine.kinds[at] = next.made.kind;
+    machine.sizes[at] = next.made.size;
+    machine.left = next.left;
+    machine.right = next.right;
+    Step {
+        list: machine,
+        outcome,
+        looks: 1,
+    }
+}
+
+// Looks until p is the rear, and counts them.
+fn run(machine: Machine, rates: Rates) -> Passed
+    requires { ⌜ Runnable rates machine ⌝ }
+    ensures { λ r. ⌜ Ran rates (rightOf machine) r ⌝ }
+{
+    let mut list = machine;
+    let mut looks: u32 = 0;
+    while list.right < 4097 {
+        let step = look(list, rates);
+        list = step.list;
+        looks += step.looks;
+    }
+    Passed { list, looks }
+}
+
+// The kind of a record: 0 new, 1 match.
+fn kind_of(item: Record) -> u8
+    ensures { λ r. ⌜ itemOf r (sizeOf item) ≡ itemFor item ⌝ }
+{
+    match item {
+        Record::New(_) => 0,
+        Record::Match(_, _) => 1,
+    }
+}
+
+// A list before the pass: the front mark at place 0, the records in the last places before the rear mark, p at the first of them.
+fn load(list: &[u8]) -> Machine
+    requires { ⌜ length (now list) ≤ 49152 ⌝ }
+    ensures { λ r. ⌜ Loaded r (items (recordsOf (now (list .entry)))) ⌝ }
+{
+    let mut kinds = [2u8; 4098];
+    let mut sizes = [0u32; 4098];
+    let mut i = list.len() / 12;
+    let mut right: usize = 4097;
+    while 0 < i {
+        i -= 1;
+        right -= 1;
+        let item = format::record_of(format::row_at(list, i));
+        kinds[right] = kind_of(item);
+        sizes[right] = choice::size_of(item);
+    }
+    Machine {
+        kinds,
+        sizes,
+        left: 1,
+        right,
+    }
+}
+
+// The choice byte of a record that an item of this kind covers.
+fn bit_of(kind: u8) -> u8
+    ensures { λ r. ⌜ r ≡ bitByte (bitFor (itemOf kind 0)) ⌝ }
+{
+    if kind == 0 { 1 } else { 0 }
+}
+
+// Writes one choice byte for each record: records and end items go side by side, by their sizes.
+fn read_off(machine: Machine, list: &[u8], choice: &mut [u8])
+    requires { ⌜ Covering machine (now list) (now choice) ⌝ }
+    ensures { λ _. ⌜ now (choice .exit) ≡ over (bitBytes (choiceOf (recordsOf (now (list .entry))) (endOf machine))) (now (choice .entry)) ⌝ }
+{
+    let n = list.len() / 12;
+    let mut at: usize = 1;
+    let mut uncovered = machine.sizes[1];
+    let mut i = 0;
+    while i < n {
+        let item = format::record_of(format::row_at(list, i));
+        let size = choice::size_of(item);
+        choice[i] = bit_of(machine.kinds[at]);
+        i += 1;
+        if size < uncovered {
+            uncovered -= size;
+        } else {
+            at += 1;
+            uncovered = machine.sizes[at];
+        }
+    }
+}
+
+// The pass over a list: writes its choice, one byte for each record, and returns the number of looks.
+pub fn pass_choice(rates: Rates, list: &[u8], choice: &mut [u8]) -> u32
+    requires { ⌜ Passable rates (now list) (now choice) ⌝ }
+    ensures { λ r. ⌜ PassIn rates (now (list .entry)) (now (choice .entry)) (now (choice .exit)) r ⌝ }
+{
+    let loaded = load(list);
+    let passed = run(loaded, rates);
+    read_off(passed.list, list, choice);
+    passed.looks
 }

@@ -25,7 +25,7 @@ use Rattle.admit.specs.Admit.{partitionRuling, findings}
 use Rattle.admit.proofs.Admitting.{areas-of-most, findings-of-long}
 use Rattle.writer.specs.Decide.{figures, Decided}
 use Rattle.writer.proofs.Deciding.{decided-answer, list-handed-on, list-room}
-use Rattle.least.specs.Partition.{leastOf, Partitioned}
+use Rattle.call_partition.specs.Partition.{leastOf, Partitioned}
 use Rattle.report.specs.Text.{reportText}
 use Rattle.program.specs.Program.{textFor, Roomy}
 

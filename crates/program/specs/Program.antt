@@ -14,7 +14,7 @@ use Rattle.price.specs.Price.{ratesOf}
 use Rattle.choice.specs.Choice.{listOf, least}
 use Rattle.admit.specs.Admit.{findings}
 use Rattle.writer.specs.Decide.{figures}
-use Rattle.pass.specs.Pass.{passChoice, passLooks}
+use Rattle.linear.specs.Pass.{passChoice, passLooks}
 use Rattle.report.specs.Text.{reportText, refusalText}
 
 -- the least choice's list and figures, with the pass's figures y; or only the refusal

@@ -30,7 +30,7 @@ fn listed(
     requires { ⌜ Roomy (now list) (now version) (now choice) (now area) (now block) (now text) ⌝ }
     ensures { λ r. ⌜ Written 0 (textFor (findings price (now (list .entry)) (now (version .entry)) (now (store .entry))) (ratesOf price) (recordsOf (now (list .entry))) y) (now (text .entry)) r (now (text .exit)) ⌝ }
 {
-    let answer = least::partition(price, list, version, store, choice, area, block);
+    let answer = call_partition::partition(price, list, version, store, choice, area, block);
     match answer {
         Answer::Refused(r) => report::refusal(text, r),
         Answer::Accepted(x) => {
@@ -54,7 +54,7 @@ fn text_of(
     requires { ⌜ Roomy (now list) (now version) (now choice) (now area) (now block) (now text) ⌝ }
     ensures { λ r. ⌜ Written 0 (programText price (now (list .entry)) (now (version .entry)) (now (store .entry))) (now (text .entry)) r (now (text .exit)) ⌝ }
 {
-    let answer = linear::pass(price, list, version, store, choice, area, block);
+    let answer = call_pass::pass(price, list, version, store, choice, area, block);
     match answer {
         Answer::Refused(r) => report::refusal(text, r),
         Answer::Accepted(y) => listed(price, list, version, store, choice, area, block, text, y),

@@ -1,0 +1,27 @@
+-- The call pass of document 01: the answer, and every area after the call, for any inputs. Checks and writing are those of partition.
+-- Assumes nothing.
+use Prim.Native.Nat.{ℕ, _*_, _-_, _≤_}
+use mathlib.Core.List.{List}
+use lib.ListN.{length}
+use Rattle.format.specs.declared.Answer.{Answer}
+use Rattle.format.specs.Refusal.{figuresIn}
+use Rattle.format.specs.Record.{recordsOf}
+use Rattle.price.specs.declared.Price.{Price}
+use Rattle.price.specs.Price.{ratesOf}
+use Rattle.area.specs.Area.{Areas}
+use Rattle.choice.specs.Choice.{Bit}
+use Rattle.admit.specs.Admit.{partitionRuling}
+use Rattle.writer.specs.Decide.{Decided}
+use Rattle.linear.specs.Pass.{passChoice, passLooks}
+
+-- the choice of the machine's last list, for a list of bytes, and the looks
+abbrev pub passChoiceOf : Price → List ℕ → List Bit
+passChoiceOf price list = passChoice (ratesOf price) (recordsOf list)
+
+abbrev pub passLooksOf : Price → List ℕ → ℕ
+passLooksOf price list = passLooks (ratesOf price) (recordsOf list)
+
+-- that choice, its list and its stored block; the answer carries its cost, entries and stored bytes, and the looks, which are few
+pub record PassMade (price : Price) (list v st : List ℕ) (before : Areas) (r : Answer) (after : Areas) : Type 0 where
+  pub decided : Decided (partitionRuling price list v st before) (ratesOf price) list v (passChoiceOf price list) (passLooksOf price list) before r after
+  pub few-looks : figuresIn r .looks ≤ 2 * length (recordsOf list) - 1

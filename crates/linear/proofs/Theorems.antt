@@ -1,0 +1,113 @@
+-- The theorems of the pass, at the rates r: it ends, within 2n - 1 looks; each merge lowers the cost; the end list has no two new
+-- items side by side and is the list of the pass's choice, which is a choice.
+-- Assumes nothing.
+use Prim.Native.Nat.{ℕ, suc, _+_, _-_, _*_, _≤_}
+use native.Mathlib.Omega.{arith}
+use mathlib.Core.Path.{_≡_, refl, _∙_, ap}
+use mathlib.Core.Bool.{false}
+use mathlib.Core.List.{List, [], _∷_}
+use lib.ListN.{length}
+use borrow.Author.Tests.{ltb-true, lt-ltb}
+use Rattle.format.specs.declared.Record.{Record}
+use Rattle.format.specs.declared.Record.the-variants.{New, Match}
+use Rattle.format.specs.Meaning.{whole}
+use Rattle.format.specs.WellFormed.{Sized, NotNew, Apart}
+use Rattle.price.specs.declared.Rates.{Rates}
+use Rattle.price.specs.Price.{cost}
+use Rattle.choice.specs.Choice.{IsChoice, listOf}
+use Rattle.rules.specs.Rules.{Item, new, match, neither, isNew, testsOf}
+use Rattle.linear.specs.Pass.{first, items, bytes, Look, lookAt, mergeIn, mergesIn, joined, pass, passOutcomes, passLooks, passItems, passChoice}
+use Rattle.linear.proofs.Fusing.{Starts, Tidy, weigh}
+use Rattle.linear.proofs.Looks.{Pays, seen, look-turns}
+use Rattle.linear.proofs.Running.{Passes, passes}
+use Rattle.linear.proofs.Recovering.{Recovered, recovered}
+
+-- what an item adds to the cost; a mark weighs as a match
+abbrev pub priceOf : Rates → Item → ℕ
+priceOf r (new s) = r .fresh .0 + r .byte .0 * s
+priceOf r (match s) = r .kept .0
+priceOf r (neither s) = r .kept .0
+
+pub cost-weigh : (r : Rates) (rs : List Record) → cost r rs ≡ weigh (priceOf r) (items rs)
+cost-weigh r [] = omega arith
+cost-weigh r (New s ∷ rs) = omega (arith, cost-weigh r rs)
+cost-weigh r (Match s a ∷ rs) = omega (arith, cost-weigh r rs)
+
+pub merges-pay : (r : Rates) → Pays (testsOf r) (priceOf r)
+merges-pay r =
+    record {
+      wider = λ s e. lt-ltb (r .byte .0 * s) (r .kept .0 + r .fresh .0) (omega (arith, ltb-true (r .byte .0 * s) (r .kept .0) e));
+      both-pays = λ a b c e. omega (arith, ltb-true (r .byte .0 * b) (r .kept .0 + r .fresh .0) e);
+      before-pays = λ a b e. omega (arith, ltb-true (r .byte .0 * b) (r .kept .0) e);
+      after-pays = λ b c e. omega (arith, ltb-true (r .byte .0 * b) (r .kept .0) e);
+      pair-pays = λ b c e. omega (arith, ltb-true (r .byte .0 * (b + c) + r .fresh .0) (2 * r .kept .0) e);
+    }
+
+pub length-items : (rs : List Record) → length (items rs) ≡ length rs
+length-items [] = refl
+length-items (r ∷ rs) = ap suc (length-items rs)
+
+pub bytes-items : (rs : List Record) → bytes (items rs) ≡ whole rs
+bytes-items [] = refl
+bytes-items (New s ∷ rs) = ap (λ (n : ℕ). s + n) (bytes-items rs)
+bytes-items (Match s a ∷ rs) = ap (λ (n : ℕ). s + n) (bytes-items rs)
+
+not-new-items : (rs : List Record) → NotNew rs → isNew (first (items rs)) ≡ false
+not-new-items [] h = refl
+not-new-items (New s ∷ rs) h = absurd h
+not-new-items (Match s a ∷ rs) h = refl
+
+pub tidy-of-apart : (rs : List Record) → Apart rs → Tidy (items rs)
+tidy-of-apart [] h = tt
+tidy-of-apart (New s ∷ rs) h = (not-new-items rs (h .0), tidy-of-apart rs (h .1))
+tidy-of-apart (Match s a ∷ rs) h = tidy-of-apart rs h
+
+-- each merge lowers the cost of the carried list, marks priced like records, and an advance does not raise it
+pub merge-lowers : (rates : Rates) (l : List Item) (x : Item) (r : List Item) → Starts (joined l (x ∷ r))
+    → let s : Look = lookAt (testsOf rates) l x r in
+    weigh (priceOf rates) (joined (s .next .left) (s .next .right)) + mergeIn (s .outcome) ≤ weigh (priceOf rates) (joined l (x ∷ r))
+merge-lowers rates l x r h = look-turns (testsOf rates) (priceOf rates) (merges-pay rates) (seen (testsOf rates) (priceOf rates) (merges-pay rates) l x r h) .lower
+
+module _ (r : Rates) (rs : List Record) (apart : Apart rs) where
+  pass-of : Passes (testsOf r) (priceOf r) (items rs)
+  pass-of = passes (testsOf r) (priceOf r) (merges-pay r) (items rs) (tidy-of-apart rs apart)
+
+  -- r comes to the rear
+  pub pass-ends : pass (testsOf r) (items rs) .end .right ≡ []
+  pass-ends = pass-of .rear
+
+  -- the end list never has two new items side by side
+  pub pass-tidy : Tidy (passItems r rs)
+  pass-tidy = pass-of .tidy
+
+  -- and covers as many bytes
+  pub pass-bytes : bytes (passItems r rs) ≡ whole rs
+  pass-bytes = pass-of .kept ∙ bytes-items rs
+
+-- the pass at the rates r over the records rs: few looks, a choice, whose list is the end list, at no higher cost
+pub record PassHolds (r : Rates) (rs : List Record) : Type 0 where
+  pub few : passLooks r rs ≤ 2 * length rs - 1
+  pub choice : IsChoice rs (passChoice r rs)
+  pub listed : items (listOf rs (passChoice r rs)) ≡ passItems r rs
+  pub lower : cost r (listOf rs (passChoice r rs)) ≤ cost r rs
+
+module _ (r : Rates) (rs : List Record) (sized : Sized rs) (apart : Apart rs) where
+  pub pass-recovered : Recovered rs (passItems r rs)
+  pass-recovered = recovered rs (passItems r rs) sized (pass-of r rs apart .tidy) (pass-of r rs apart .fuses)
+
+  -- the cost of the pass's list is lower than the list's by at least 1 for each merge
+  pub merges-lower : cost r (listOf rs (passChoice r rs)) + mergesIn (passOutcomes r rs) ≤ cost r rs
+  unfolding passOutcomes
+  merges-lower =
+      let c = ap (weigh (priceOf r)) (pass-recovered .listed) in
+      omega (arith, pass-of r rs apart .lower, cost-weigh r rs, cost-weigh r (listOf rs (passChoice r rs)), c)
+
+  pub pass-holds : PassHolds r rs
+  unfolding passOutcomes
+  pass-holds =
+      record {
+        few = omega (arith, pass-of r rs apart .few, length-items rs);
+        choice = pass-recovered .choice;
+        listed = pass-recovered .listed;
+        lower = omega (arith, merges-lower);
+      }

@@ -1,0 +1,116 @@
+-- `linear::read_off` meets its contract. The invariant: `Off` says which items the records from i on are still to cover, and what stands in the area.
+-- The measure is the number of records left. Assumes nothing.
+use Prim.Native.Nat.{_-_}
+use native.Mathlib.Omega.{arith}
+use mathlib.Core.Path.{_≡_, ap, _∙_}
+use Rattle.format.specs.Record.{rowAt, recordOf}
+use Rattle.format.specs.Meaning.{sizeOf}
+use Rattle.linear.proofs.Reading.{Off, off-start, off-room, off-within, off-beyond, off-end}
+use borrow.Author.Needs.{needs}
+use Rattle.linear.proofs.read_off.Statement.{statement}
+use Rattle.linear.proofs.read_off.Tie as tie
+
+abbrev Inv-loop : tie.InvT-loop
+Inv-loop list choice₀ machine n at₀ uncovered₀ i₀ choice at uncovered i = Off machine list choice₀ choice at uncovered i
+
+abbrev μ-loop : tie.MeasureT-loop
+μ-loop list choice₀ machine n at₀ uncovered₀ i₀ choice at uncovered i = n - i
+
+element-copy-out-uncovered : tie.Need-element-copy-out-uncovered Inv-loop μ-loop
+element-copy-out-uncovered c = search needs
+
+loop-holds : tie.Need-loop-holds Inv-loop μ-loop
+loop-holds c = off-start (c .before .before .before .args .t1) (c .before .before .before .args .list .now) (c .before .before .before .args .choice .now) (c .before .before .before .pre)
+
+row-at-requires : tie.Need-row-at-requires Inv-loop μ-loop
+row-at-requires c κs = search needs
+
+record-of-requires : tie.Need-record-of-requires Inv-loop μ-loop
+record-of-requires c κs = search needs
+
+size-of-requires : tie.Need-size-of-requires Inv-loop μ-loop
+size-of-requires c κs = search needs
+
+element-copy-out-bit-of : tie.Need-element-copy-out-bit-of Inv-loop μ-loop
+element-copy-out-bit-of c = omega (arith, c .before .before .before .before .loop .inv .at-most, c .before .before .before .before .before .before .before .before .pre .list-most)
+
+bit-of-requires : tie.Need-bit-of-requires Inv-loop μ-loop
+bit-of-requires c κs = search needs
+
+slice-write-choice : tie.Need-slice-write-choice Inv-loop μ-loop
+slice-write-choice c =
+    let g = c .before .before .before .before .before .before .before .before .before .before .args in
+    let l = c .before .before .before .before .before .before .loop in
+    off-room (g .t1) (g .list .now) (g .choice .now) (c .before .before .before .before .before .before .before .before .before .before .pre) (l .choice) (l .at) (l .uncovered) (l .i) (l .inv) (omega arith)
+
+add-i : tie.Need-add-i Inv-loop μ-loop
+add-i c = search needs
+
+sub-uncovered : tie.Need-sub-uncovered Inv-loop μ-loop
+sub-uncovered c = search needs
+
+loop-less : tie.Need-loop-less Inv-loop μ-loop
+loop-less c = search needs
+
+loop-again : tie.Need-loop-again Inv-loop μ-loop
+loop-again c =
+    let g = c .before .before .before .before .before .before .before .before .before .before .before .args in
+    let l = c .before .before .before .before .before .before .before .loop in
+    let is : c .before .before .before .before .record-of .result ≡ recordOf (rowAt (g .list .now) (l .i)) = c .before .before .before .before .record-of .ensures ∙ ap recordOf (c .before .before .before .before .before .row-at .ensures) in
+    let size : c .before .before .before .size-of .result ≡ sizeOf (recordOf (rowAt (g .list .now) (l .i))) = c .before .before .before .size-of .ensures ∙ ap sizeOf is in
+    rw size (off-within (g .t1) (g .list .now) (g .choice .now) (c .before .before .before .before .before .before .before .before .before .before .before .pre) (l .choice) (l .at) (l .uncovered) (l .i) (l .inv) (omega arith) (omega (arith, size)) (c .before .bit-of .result) (c .before .bit-of .ensures))
+
+add-at : tie.Need-add-at Inv-loop μ-loop
+add-at c = omega (arith, c .before .before .before .before .before .before .before .loop .inv .at-most, c .before .before .before .before .before .before .before .before .before .before .before .pre .list-most)
+
+mul-uncovered : tie.Need-mul-uncovered Inv-loop μ-loop
+mul-uncovered c = omega (arith, c .before .before .before .before .before .before .before .loop .inv .at-most, c .before .before .before .before .before .before .before .before .before .before .before .pre .list-most)
+
+element-copy-out-uncovered-2 : tie.Need-element-copy-out-uncovered-2 Inv-loop μ-loop
+element-copy-out-uncovered-2 c = omega (arith, c .before .before .before .before .before .before .before .loop .inv .at-most, c .before .before .before .before .before .before .before .before .before .before .before .pre .list-most)
+
+loop-less-2 : tie.Need-loop-less-2 Inv-loop μ-loop
+loop-less-2 c = search needs
+
+loop-again-2 : tie.Need-loop-again-2 Inv-loop μ-loop
+loop-again-2 c =
+    let g = c .before .before .before .before .before .before .before .before .before .before .before .before .args in
+    let l = c .before .before .before .before .before .before .before .before .loop in
+    let is : c .before .before .before .before .before .record-of .result ≡ recordOf (rowAt (g .list .now) (l .i)) = c .before .before .before .before .before .record-of .ensures ∙ ap recordOf (c .before .before .before .before .before .before .row-at .ensures) in
+    let size : c .before .before .before .before .size-of .result ≡ sizeOf (recordOf (rowAt (g .list .now) (l .i))) = c .before .before .before .before .size-of .ensures ∙ ap sizeOf is in
+    off-beyond (g .t1) (g .list .now) (g .choice .now) (c .before .before .before .before .before .before .before .before .before .before .before .before .pre) (l .choice) (l .at) (l .uncovered) (l .i) (l .inv) (omega arith) (omega (arith, size)) (c .before .before .bit-of .result) (c .before .before .bit-of .ensures)
+
+same-length : tie.Need-same-length Inv-loop μ-loop
+same-length c = c .before .loop .inv .filling .same
+
+returns : tie.Need-returns Inv-loop μ-loop
+returns c =
+    let g = c .before .before .before .before .before .args in
+    let l = c .before .loop in
+    off-end (g .t1) (g .list .now) (g .choice .now) (c .before .before .before .before .before .pre) (l .choice) (l .at) (l .uncovered) (l .i) (l .inv) (omega arith)
+
+pub read-off-spec : {M : Type 1} → statement M
+read-off-spec =
+    tie.close
+    (tie.spec
+    Inv-loop
+    μ-loop
+    element-copy-out-uncovered
+    loop-holds
+    row-at-requires
+    record-of-requires
+    size-of-requires
+    element-copy-out-bit-of
+    bit-of-requires
+    slice-write-choice
+    add-i
+    sub-uncovered
+    loop-less
+    loop-again
+    add-at
+    mul-uncovered
+    element-copy-out-uncovered-2
+    loop-less-2
+    loop-again-2
+    same-length
+    returns)

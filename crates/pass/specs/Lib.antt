@@ -1,2 +1,0 @@
-pub mod Pass
-pub mod Machine
