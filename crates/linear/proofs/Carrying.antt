@@ -1,5 +1,5 @@
--- What a move makes of a machine, outcome by outcome: two stores in each array, at p's place and at the place of what is made; and a look, from
--- what it sees.
+-- A look on a machine. In order: the first items around a place; what a move makes of a machine, by two stores in each array, at p's place and at
+-- the place of what is made; a look, from what it sees.
 -- Assumes nothing.
 use Prim.Native.Nat.{ℕ, _+_, _-_, _≤_, _<_}
 use native.Mathlib.Omega.{arith}
@@ -71,13 +71,6 @@ moved m v =
       left = v .left;
       right = v .right;
     }
-
--- what an outcome makes of a machine
-record Carried (m : Machine) (o : Outcome) (r : Machine) : Type 0 where
-  holds : stateOf r ≡ after o (leftOf m) (itemIn m (m .right)) (afterOf m)
-  gap : r .left ≤ r .right
-  within : r .right ≤ 4097
-  rear-kept : itemIn r 4097 ≡ itemIn m 4097
 
 module _ (m : Machine) (hk : length (m .kinds) ≡ 4098) (hs : length (m .sizes) ≡ 4098) (v : Move) (reached : m .right < 4097) where
   -- made at p's place or before it
@@ -151,44 +144,16 @@ module _ (m : Machine) (hk : length (m .kinds) ≡ 4098) (hs : length (m .sizes)
       ∙ sym (ap (λ (l : List Item). stepBack l (new n ∷ rest (afterOf m))) opened)
 
   -- what an outcome makes of the list
-  carried : (o : Outcome) → Reaches (m .left) (m .right) o → Carried m o (moved m (moveOf (m .left) (m .right) (s .before) (s .p) o))
+  carried : (o : Outcome) → Reaches (m .left) (m .right) o
+      → stateOf (moved m (moveOf (m .left) (m .right) (s .before) (s .p) o)) ≡ after o (leftOf m) (itemIn m (m .right)) (afterOf m)
   carried Advance h =
       let v = goneOn (m .left) (m .right) (s .p) in
       let g : m .right < 4097 = omega (arith, h .ahead) in
-      record {
-        holds = state-of (put-left m hk hs v g (h .gap) refl ∙ cons-of (w .p-is) refl) (put-right m hk hs v g (h .gap) (omega arith));
-        gap = omega (arith, h .gap);
-        within = omega (arith, h .ahead);
-        rear-kept = put-rear m hk hs v g (omega (arith, h .gap));
-      }
-  carried (Merged (Both n)) h =
-      record {
-        holds = back n 2 (omega (arith, h .behind)) (h .gap) (omega arith) (omega (arith, h .ahead)) ∙ state-of refl (sym (rest-after (m .kinds) (m .sizes) (m .right)));
-        gap = omega (arith, h .gap);
-        within = omega (arith, h .ahead);
-        rear-kept = put-rear m hk hs (fusedBack (m .left) (m .right) (s .p) (newCell n) 2) (omega (arith, h .ahead)) (omega (arith, h .gap, h .ahead));
-      }
-  carried (Merged (Before n)) h =
-      record {
-        holds = back n 1 (omega (arith, h .behind)) (h .gap) (omega arith) (omega (arith, h .ahead));
-        gap = omega (arith, h .gap);
-        within = omega (arith, h .ahead);
-        rear-kept = put-rear m hk hs (fusedBack (m .left) (m .right) (s .p) (newCell n) 1) (omega (arith, h .ahead)) (omega (arith, h .gap, h .ahead));
-      }
-  carried (Merged (After n)) h =
-      record {
-        holds = ahead n (omega (arith, h .behind)) (h .gap) (omega (arith, h .ahead));
-        gap = omega (arith, h .gap);
-        within = omega (arith, h .ahead);
-        rear-kept = put-rear m hk hs (fusedAhead (m .left) (m .right) (s .before) (newCell n)) (omega (arith, h .ahead)) (omega (arith, h .ahead));
-      }
-  carried (Merged (Pair n)) h =
-      record {
-        holds = ahead n (omega (arith, h .behind)) (h .gap) (omega (arith, h .ahead));
-        gap = omega (arith, h .gap);
-        within = omega (arith, h .ahead);
-        rear-kept = put-rear m hk hs (fusedAhead (m .left) (m .right) (s .before) (newCell n)) (omega (arith, h .ahead)) (omega (arith, h .ahead));
-      }
+      state-of (put-left m hk hs v g (h .gap) refl ∙ cons-of (w .p-is) refl) (put-right m hk hs v g (h .gap) (omega arith))
+  carried (Merged (Both n)) h = back n 2 (omega (arith, h .behind)) (h .gap) (omega arith) (omega (arith, h .ahead)) ∙ state-of refl (sym (rest-after (m .kinds) (m .sizes) (m .right)))
+  carried (Merged (Before n)) h = back n 1 (omega (arith, h .behind)) (h .gap) (omega arith) (omega (arith, h .ahead))
+  carried (Merged (After n)) h = ahead n (omega (arith, h .behind)) (h .gap) (omega (arith, h .ahead))
+  carried (Merged (Pair n)) h = ahead n (omega (arith, h .behind)) (h .gap) (omega (arith, h .ahead))
 
 -- ---- a look, from what it sees
 
@@ -215,13 +180,18 @@ reach-mark t (new a) (match s) c = go (t .side s)
 reach-mark t (match a) (match s) c = omega arith
 reach-mark t (neither a) (match s) c = omega arith
 
--- where an outcome writes
-at-most : (l r : ℕ) (b p : Cell) (o : Outcome) → Reaches l r o → moveOf l r b p o .at ≤ 4097
-at-most l r b p Advance h = omega (arith, h .gap, h .ahead)
-at-most l r b p (Merged (Both s)) h = omega (arith, h .gap, h .ahead)
-at-most l r b p (Merged (Before s)) h = omega (arith, h .gap, h .ahead)
-at-most l r b p (Merged (After s)) h = omega (arith, h .ahead)
-at-most l r b p (Merged (Pair s)) h = omega (arith, h .ahead)
+-- where the move of an outcome writes, and where the cursor comes
+record Inside (v : Move) : Type 0 where
+  gap : v .left ≤ v .right
+  within : v .right ≤ 4097
+  placed : v .at < 4097
+
+inside-of-reaches : (l r : ℕ) (b p : Cell) (o : Outcome) → Reaches l r o → Inside (moveOf l r b p o)
+inside-of-reaches l r b p Advance h = record { gap = omega (arith, h .gap); within = omega (arith, h .ahead); placed = omega (arith, h .gap, h .ahead) }
+inside-of-reaches l r b p (Merged (Both s)) h = record { gap = omega (arith, h .gap); within = omega (arith, h .ahead); placed = omega (arith, h .gap, h .ahead) }
+inside-of-reaches l r b p (Merged (Before s)) h = record { gap = omega (arith, h .gap); within = omega (arith, h .ahead); placed = omega (arith, h .gap, h .ahead) }
+inside-of-reaches l r b p (Merged (After s)) h = record { gap = omega (arith, h .gap); within = omega (arith, h .ahead); placed = omega (arith, h .ahead) }
+inside-of-reaches l r b p (Merged (Pair s)) h = record { gap = omega (arith, h .gap); within = omega (arith, h .ahead); placed = omega (arith, h .ahead) }
 
 first-most : (l : List Item) → size (first l) ≤ bytes l
 first-most [] = omega arith
@@ -258,19 +228,22 @@ module _ (rates : Rates) (m : Machine) (h : Ready rates m) (s : Sight) (w : Sigh
             omega (arith, k, h .not-rear, reach-mark (testsOf rates) (cellItem (s .before)) (cellItem (s .p)) (cellItem (s .second)))
 
     module _ (v : Move) (e : v ≡ moveOf (m .left) (m .right) (s .before) (s .p) o) where
-      pub place-most : v .at ≤ 4097
-      place-most = rw e (at-most (m .left) (m .right) (s .before) (s .p) o outcome-reaches)
+      inside : Inside v
+      inside = rw e (inside-of-reaches (m .left) (m .right) (s .before) (s .p) o outcome-reaches)
+
+      pub place-inside : v .at < 4097
+      place-inside = inside .placed
 
       -- the step that carries the outcome out
       pub looked : length (m .kinds) ≡ 4098 → length (m .sizes) ≡ 4098 → (t : Step) → t .looks ≡ 1 → t .outcome ≡ o → t .list ≡ moved m v → Looked rates m t
       looked hk hs t n d f =
-          let c = rw (← e) at (carried m hk hs s w o outcome-reaches) in
+          let holds = ap stateOf f ∙ ap (λ (x : Move). stateOf (moved m x)) e ∙ carried m hk hs s w o outcome-reaches in
           let seen : o ≡ outcomeAt (testsOf rates) (first (leftOf m)) (itemIn m (m .right)) (first (afterOf m)) (first (rest (afterOf m))) =
           is ∙ (λ i. outcomeAt (testsOf rates) (w .before-is i) (w .p-is i) (w .after-is i) (w .second-is i)) in
           record {
             one = n;
-            is = (λ i. record { outcome = d i; next = (ap stateOf f ∙ c .holds) i }) ∙ ap (λ (x : Outcome). ended x (leftOf m) (itemIn m (m .right)) (afterOf m)) seen;
-            gap = rw f (c .gap);
-            within = rw f (c .within);
-            rear = rw f (c .rear-kept ∙ h .rear);
+            is = (λ i. record { outcome = d i; next = holds i }) ∙ ap (λ (x : Outcome). ended x (leftOf m) (itemIn m (m .right)) (afterOf m)) seen;
+            gap = rw f (inside .gap);
+            within = rw f (inside .within);
+            rear = rw f (put-rear m hk hs v (h .not-rear) (inside .placed) ∙ h .rear);
           }

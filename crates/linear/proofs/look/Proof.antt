@@ -3,7 +3,7 @@ use Prim.Native.Nat.{ℕ}
 use native.Mathlib.Omega.{arith}
 use mathlib.Core.Path.{_≡_, refl}
 use lib.ListN.{length}
-use Rattle.linear.proofs.Carrying.{sizes-fit, outcome-reaches, place-most, looked}
+use Rattle.linear.proofs.Carrying.{sizes-fit, outcome-reaches, place-inside, looked}
 use borrow.Author.Needs.{needs, length-unmapped}
 use Rattle.linear.proofs.look.Statement.{statement}
 use Rattle.linear.proofs.look.Tie as tie
@@ -37,7 +37,7 @@ element-write-machine-3 c =
     let seen = c .before .before .sight-of in
     let o = c .before .outcome-at in
     let v = c .move-of in
-    omega (arith, place-most (u .args .rates) (u .args .t1) (u .pre) (seen .result) (seen .ensures) (o .result) (o .ensures) (v .result) (v .ensures))
+    omega (arith, place-inside (u .args .rates) (u .args .t1) (u .pre) (seen .result) (seen .ensures) (o .result) (o .ensures) (v .result) (v .ensures))
 
 mul-machine-2 : tie.Need-mul-machine-2
 mul-machine-2 c =
@@ -45,7 +45,7 @@ mul-machine-2 c =
     let seen = c .before .before .sight-of in
     let o = c .before .outcome-at in
     let v = c .move-of in
-    omega (arith, place-most (u .args .rates) (u .args .t1) (u .pre) (seen .result) (seen .ensures) (o .result) (o .ensures) (v .result) (v .ensures))
+    omega (arith, place-inside (u .args .rates) (u .args .t1) (u .pre) (seen .result) (seen .ensures) (o .result) (o .ensures) (v .result) (v .ensures))
 
 element-write-machine-4 : tie.Need-element-write-machine-4
 element-write-machine-4 c =
@@ -53,7 +53,7 @@ element-write-machine-4 c =
     let seen = c .before .before .sight-of in
     let o = c .before .outcome-at in
     let v = c .move-of in
-    omega (arith, place-most (u .args .rates) (u .args .t1) (u .pre) (seen .result) (seen .ensures) (o .result) (o .ensures) (v .result) (v .ensures))
+    omega (arith, place-inside (u .args .rates) (u .args .t1) (u .pre) (seen .result) (seen .ensures) (o .result) (o .ensures) (v .result) (v .ensures))
 
 returns : tie.Need-returns
 returns c =
