@@ -1,4 +1,4 @@
-// What a choice makes of a record, and whether two neighbouring records become one.
+// What a choice makes of a record.
 ghost use mathlib.Core.Path.{_≡_};
 ghost use Rattle.format.specs.Meaning.{sizeOf};
 ghost use Rattle.choice.specs.Choice.{bitOf, chosenRecord};
