@@ -13,16 +13,8 @@ use Rattle.price.specs.Price.{cost}
 use Rattle.join.specs.Join.{join}
 use Rattle.join.proofs.Joining.{join-match, join-new}
 use Rattle.choice.specs.Choice.{Bit, keep, store, freedom, May, IsChoice, chosenRecord, listOf, costOf, least, Early, IsLeast, keepAll}
-use Rattle.choice.proofs.Path.{Beats, walk, best, pick, first, walk-pick, pick-is-first, pick-fits, pick-beats, pick-first, first-fits, choices-cong, le-beats, early-antisym}
-
-abbrev pub after : Record → Bit → Bit
-after r b = b
-
--- what a record adds to the cost, by the bit before it and its own
-abbrev pub step : Rates → Bit → Record → Bit → ℕ
-step rates s r keep = rates .kept .0
-step rates keep r store = rates .fresh .0 + rates .byte .0 * sizeOf r
-step rates store r store = rates .byte .0 * sizeOf r
+use Rattle.choice.specs.Path.{walk, best, pick, after, step}
+use Rattle.choice.proofs.Path.{Beats, first, walk-pick, pick-is-first, pick-fits, pick-beats, pick-first, first-fits, choices-cong, le-beats, early-antisym}
 
 pub keep-store : {A : Type 0} → keep ≡ store → A
 keep-store e = absurd (let z : _≡_ {A = ℕ} 0 1 = cc in omega arith)

@@ -11,6 +11,7 @@ use lib.Dec.{leb}
 use borrow.Author.Tests.{leb-true, leb-false, le-leb, lt-leb}
 use Rattle.format.specs.declared.Record.{Record}
 use Rattle.choice.specs.Choice.{Bit, keep, store, Free, only, either, freedom, May, IsChoice, Early, put, spread, choices, lower, low, firstMin, firstOf}
+use Rattle.choice.specs.Path.{bitFor, decide, at, follow, walk, best, turn, pick, hints}
 
 abbrev pub Beats : ℕ → List Bit → ℕ → List Bit → Type 0
 Beats m c n d = (m < n) ⊎ ((m ≡ n) × Early c d)
@@ -134,19 +135,6 @@ choices-cong f g rs h = first-cong f g (choices rs) (all-map (IsChoice rs) (λ (
 
 -- ---- the least path
 
-abbrev pub bitFor : Bool → Bit
-bitFor true = keep
-bitFor false = store
-
--- the bit to take, where keeping comes to m and storing to n
-abbrev pub decide : Free → ℕ → ℕ → Bit
-decide (only b) m n = b
-decide either m n = bitFor (leb m n)
-
-abbrev pub at : Bit → ℕ → ℕ → ℕ
-at keep m n = m
-at store m n = n
-
 pub le-beats : {m n : ℕ} {A : Type 0} → (m < n) ⊎ ((m ≡ n) × A) → m ≤ n
 le-beats (inl h) = omega arith
 le-beats (inr h) = omega (arith, h .0)
@@ -199,138 +187,105 @@ first-early (r ∷ rs) (b ∷ c) h = go (freedom r) b (h .0) (first-early rs c (
     go either keep e k = k
     go either store e k = tt
 
-abbrev pub pickBit : Bit → Bit × Bit → Bit
-pickBit keep h = h .0
-pickBit store h = h .1
-
-abbrev pub follow : Bit → List (Bit × Bit) → List Bit
-follow b [] = []
-follow b (h ∷ hs) = pickBit b h ∷ follow (pickBit b h) hs
-
 abbrev pub total : (Record → ℕ) → List Record → ℕ
 total k [] = 0
 total k (r ∷ rs) = k r + total k rs
 
 module _ {S : Type 0} (after : Record → Bit → S) (step : S → Record → Bit → ℕ) where
-  -- the cost of a choice, from the state s on
-  abbrev pub walk : List Record → S → List Bit → ℕ
-  walk [] s c = 0
-  walk (r ∷ rs) s [] = 0
-  walk (r ∷ rs) s (b ∷ c) = step s r b + walk rs (after r b) c
-
-  abbrev pub best : List Record → S → ℕ
-  best [] s = 0
-  best (r ∷ rs) s =
-      let m = step s r keep + best rs (after r keep) in
-      let n = step s r store + best rs (after r store) in
-      at (decide (freedom r) m n) m n
-
-  abbrev pub turn : List Record → S → Record → Bit
-  turn rs s r = decide (freedom r) (step s r keep + best rs (after r keep)) (step s r store + best rs (after r store))
-
-  abbrev pub pick : List Record → S → List Bit
-  pick [] s = []
-  pick (r ∷ rs) s = turn rs s r ∷ pick rs (after r (turn rs s r))
-
-  pub walk-pick : (rs : List Record) (s : S) → walk rs s (pick rs s) ≡ best rs s
+  pub walk-pick : (rs : List Record) (s : S) → walk after step rs s (pick after step rs s) ≡ best after step rs s
   walk-pick [] s = refl
-  walk-pick (r ∷ rs) s = go (walk-pick rs) (turn rs s r)
+  walk-pick (r ∷ rs) s = go (walk-pick rs) (turn after step rs s r)
     where
-      go : ((t : S) → walk rs t (pick rs t) ≡ best rs t) → (b : Bit) → step s r b + walk rs (after r b) (pick rs (after r b)) ≡ at b (step s r keep + best rs (after r keep)) (step s r store + best rs (after r store))
+      go : ((t : S) → walk after step rs t (pick after step rs t) ≡ best after step rs t) → (b : Bit) → step s r b + walk after step rs (after r b) (pick after step rs (after r b)) ≡ at b (step s r keep + best after step rs (after r keep)) (step s r store + best after step rs (after r store))
       go ih keep = rw (ih (after r keep))
       go ih store = rw (ih (after r store))
 
-  pub pick-is-first : (rs : List Record) (s : S) → firstOf (walk rs s) (choices rs) ≡ pick rs s
+  pub pick-is-first : (rs : List Record) (s : S) → firstOf (walk after step rs s) (choices rs) ≡ pick after step rs s
   pick-is-first [] s = refl
   pick-is-first (r ∷ rs) s = go (pick-is-first rs) (freedom r)
     where
       f : List Bit → ℕ
-      f = walk (r ∷ rs) s
+      f = walk after step (r ∷ rs) s
 
       m : ℕ
-      m = step s r keep + best rs (after r keep)
+      m = step s r keep + best after step rs (after r keep)
 
       n : ℕ
-      n = step s r store + best rs (after r store)
+      n = step s r store + best after step rs (after r store)
 
-      forced : ((t : S) → firstOf (walk rs t) (choices rs) ≡ pick rs t) → (b : Bit) → firstOf f (put b (choices rs)) ≡ b ∷ pick rs (after r b)
-      forced ih b = first-put f (walk rs (after r b)) b (step s r b) (λ c. refl) (choices rs) (any-choices rs) ∙ ap (λ (c : List Bit). b ∷ c) (ih (after r b))
+      forced : ((t : S) → firstOf (walk after step rs t) (choices rs) ≡ pick after step rs t) → (b : Bit) → firstOf f (put b (choices rs)) ≡ b ∷ pick after step rs (after r b)
+      forced ih b = first-put f (walk after step rs (after r b)) b (step s r b) (λ c. refl) (choices rs) (any-choices rs) ∙ ap (λ (c : List Bit). b ∷ c) (ih (after r b))
 
-      turned : (t : Bool) → lower t (keep ∷ pick rs (after r keep)) (store ∷ pick rs (after r store)) ≡ bitFor t ∷ pick rs (after r (bitFor t))
+      turned : (t : Bool) → lower t (keep ∷ pick after step rs (after r keep)) (store ∷ pick after step rs (after r store)) ≡ bitFor t ∷ pick after step rs (after r (bitFor t))
       turned true = refl
       turned false = refl
 
-      go : ((t : S) → firstOf (walk rs t) (choices rs) ≡ pick rs t) → (x : Free) → firstOf f (spread x (choices rs)) ≡ decide x m n ∷ pick rs (after r (decide x m n))
+      go : ((t : S) → firstOf (walk after step rs t) (choices rs) ≡ pick after step rs t) → (x : Free) → firstOf f (spread x (choices rs)) ≡ decide x m n ∷ pick after step rs (after r (decide x m n))
       go ih (only b) = forced ih b
       go ih either =
           first-append f (put keep (choices rs)) (put store (choices rs)) (any-put keep (choices rs) (any-choices rs)) (any-put store (choices rs) (any-choices rs))
           ∙ rw (forced ih keep, forced ih store, walk-pick rs (after r keep), walk-pick rs (after r store)) (turned (leb m n))
 
-  pub pick-fits : (rs : List Record) (s : S) → IsChoice rs (pick rs s)
+  pub pick-fits : (rs : List Record) (s : S) → IsChoice rs (pick after step rs s)
   pick-fits [] s = tt
-  pick-fits (r ∷ rs) s = (may (freedom r) _ _, pick-fits rs (after r (turn rs s r)))
+  pick-fits (r ∷ rs) s = (may (freedom r) _ _, pick-fits rs (after r (turn after step rs s r)))
     where
       may : (x : Free) (m n : ℕ) → May x (decide x m n)
       may (only b) m n = refl
       may either m n = tt
 
   -- the least path against any other: it costs less, or as much and has 0 at the first difference
-  pub pick-beats : (rs : List Record) (s : S) (c : List Bit) → IsChoice rs c → Beats (best rs s) (pick rs s) (walk rs s c) c
+  pub pick-beats : (rs : List Record) (s : S) (c : List Bit) → IsChoice rs c → Beats (best after step rs s) (pick after step rs s) (walk after step rs s c) c
   pick-beats [] s [] h = inr (refl, tt)
   pick-beats [] s (b ∷ c) h = absurd h
   pick-beats (r ∷ rs) s [] h = absurd h
   pick-beats (r ∷ rs) s (b ∷ c) h = go (freedom r) b (h .0) (pick-beats rs (after r b) c (h .1))
     where
       m : ℕ
-      m = step s r keep + best rs (after r keep)
+      m = step s r keep + best after step rs (after r keep)
 
       n : ℕ
-      n = step s r store + best rs (after r store)
+      n = step s r store + best after step rs (after r store)
 
-      same : (b : Bit) → Beats (best rs (after r b)) (pick rs (after r b)) (walk rs (after r b) c) c → Beats (at b m n) (b ∷ pick rs (after r b)) (step s r b + walk rs (after r b) c) (b ∷ c)
+      same : (b : Bit) → Beats (best after step rs (after r b)) (pick after step rs (after r b)) (walk after step rs (after r b) c) c → Beats (at b m n) (b ∷ pick after step rs (after r b)) (step s r b + walk after step rs (after r b) c) (b ∷ c)
       same keep (inl h) = inl (omega arith)
       same keep (inr h) = inr (omega (arith, h .0), h .1)
       same store (inl h) = inl (omega arith)
       same store (inr h) = inr (omega (arith, h .0), h .1)
 
-      go : (x : Free) (b : Bit) → May x b → Beats (best rs (after r b)) (pick rs (after r b)) (walk rs (after r b) c) c → Beats (at (decide x m n) m n) (decide x m n ∷ pick rs (after r (decide x m n))) (step s r b + walk rs (after r b) c) (b ∷ c)
+      go : (x : Free) (b : Bit) → May x b → Beats (best after step rs (after r b)) (pick after step rs (after r b)) (walk after step rs (after r b) c) c → Beats (at (decide x m n) m n) (decide x m n ∷ pick after step rs (after r (decide x m n))) (step s r b + walk after step rs (after r b) c) (b ∷ c)
       go (only d) b e h = rw (← e) (same b h)
       go either b e h = test (leb m n) refl b h
         where
-          test : (t : Bool) → leb m n ≡ t → (b : Bit) → Beats (best rs (after r b)) (pick rs (after r b)) (walk rs (after r b) c) c → Beats (at (bitFor t) m n) (bitFor t ∷ pick rs (after r (bitFor t))) (step s r b + walk rs (after r b) c) (b ∷ c)
+          test : (t : Bool) → leb m n ≡ t → (b : Bit) → Beats (best after step rs (after r b)) (pick after step rs (after r b)) (walk after step rs (after r b) c) c → Beats (at (bitFor t) m n) (bitFor t ∷ pick after step rs (after r (bitFor t))) (step s r b + walk after step rs (after r b) c) (b ∷ c)
           test true e keep h = same keep h
           test true e store h = beats-le (omega (arith, leb-true m n e, le-beats h)) tt
           test false e keep h = inl (omega (arith, leb-false m n e, le-beats h))
           test false e store h = same store h
 
-  pub best-least : (rs : List Record) (s : S) (c : List Bit) → IsChoice rs c → best rs s ≤ walk rs s c
+  pub best-least : (rs : List Record) (s : S) (c : List Bit) → IsChoice rs c → best after step rs s ≤ walk after step rs s c
   best-least rs s c h = le-beats (pick-beats rs s c h)
 
   -- where the choice that keeps all it may is among the least, it is the one picked
-  pub pick-first : (rs : List Record) (s : S) → walk rs s (first rs) ≤ best rs s → pick rs s ≡ first rs
+  pub pick-first : (rs : List Record) (s : S) → walk after step rs s (first rs) ≤ best after step rs s → pick after step rs s ≡ first rs
   pick-first rs s h = go (pick-beats rs s (first rs) (first-fits rs))
     where
-      go : Beats (best rs s) (pick rs s) (walk rs s (first rs)) (first rs) → pick rs s ≡ first rs
+      go : Beats (best after step rs s) (pick after step rs s) (walk after step rs s (first rs)) (first rs) → pick after step rs s ≡ first rs
       go (inl l) = absurd (omega arith)
-      go (inr e) = early-antisym (pick rs s) (first rs) (e .1) (first-early rs (pick rs s) (pick-fits rs s))
+      go (inr e) = early-antisym (pick after step rs s) (first rs) (e .1) (first-early rs (pick after step rs s) (pick-fits rs s))
 
   -- ---- the two passes of the code: from the rear, a bit for each of the two states before a record; then from the front, the bits taken
 
-  -- g: the state before the first record, by the bit before it; at the front of a list it is the start's, whatever the bit
-  abbrev pub hints : (Bit → S) → List Record → List (Bit × Bit)
-  hints g [] = []
-  hints g (r ∷ rs) = (turn rs (g keep) r, turn rs (g store) r) ∷ hints (after r) rs
-
-  pub follow-pick : (g : Bit → S) (rs : List Record) (b : Bit) → follow b (hints g rs) ≡ pick rs (g b)
+  pub follow-pick : (g : Bit → S) (rs : List Record) (b : Bit) → follow b (hints after step g rs) ≡ pick after step rs (g b)
   follow-pick g [] b = refl
-  follow-pick g (r ∷ rs) keep = ap (λ (c : List Bit). turn rs (g keep) r ∷ c) (follow-pick (after r) rs (turn rs (g keep) r))
-  follow-pick g (r ∷ rs) store = ap (λ (c : List Bit). turn rs (g store) r ∷ c) (follow-pick (after r) rs (turn rs (g store) r))
+  follow-pick g (r ∷ rs) keep = ap (λ (c : List Bit). turn after step rs (g keep) r ∷ c) (follow-pick (after r) rs (turn after step rs (g keep) r))
+  follow-pick g (r ∷ rs) store = ap (λ (c : List Bit). turn after step rs (g store) r ∷ c) (follow-pick (after r) rs (turn after step rs (g store) r))
 
   -- a bound for each step bounds the whole, so the numbers fit
-  pub walk-bound : (k : Record → ℕ) → ((s : S) (r : Record) (b : Bit) → step s r b ≤ k r) → (rs : List Record) (s : S) (c : List Bit) → walk rs s c ≤ total k rs
+  pub walk-bound : (k : Record → ℕ) → ((s : S) (r : Record) (b : Bit) → step s r b ≤ k r) → (rs : List Record) (s : S) (c : List Bit) → walk after step rs s c ≤ total k rs
   walk-bound k h [] s c = omega arith
   walk-bound k h (r ∷ rs) s [] = omega arith
   walk-bound k h (r ∷ rs) s (b ∷ c) = omega (arith, h s r b, walk-bound k h rs (after r b) c)
 
-  pub best-bound : (k : Record → ℕ) → ((s : S) (r : Record) (b : Bit) → step s r b ≤ k r) → (rs : List Record) (s : S) → best rs s ≤ total k rs
-  best-bound k h rs s = omega (arith, walk-pick rs s, walk-bound k h rs s (pick rs s))
+  pub best-bound : (k : Record → ℕ) → ((s : S) (r : Record) (b : Bit) → step s r b ≤ k r) → (rs : List Record) (s : S) → best after step rs s ≤ total k rs
+  best-bound k h rs s = omega (arith, walk-pick rs s, walk-bound k h rs s (pick after step rs s))

@@ -13,7 +13,7 @@ use borrow.Author.Tests.{leb-true, eqb-true}
 use Rattle.format.specs.declared.Row.{Row}
 use Rattle.format.specs.declared.Record.{Record}
 use Rattle.format.specs.declared.Record.the-variants.{New, Match}
-use Rattle.format.specs.Record.{from, rowAt, isNew, recordOf, records, recordsOf, wellFormed, listFits}
+use Rattle.format.specs.Record.{from, rowAt, isNew, recordOf, records, recordsOf, wellFormed, listFits, recordsFrom}
 use Rattle.format.specs.Limits.{listMost}
 use Rattle.format.specs.Meaning.{sizeOf, stored}
 use Rattle.format.proofs.Rulings.{both-of-and}
@@ -50,10 +50,6 @@ stored-record r l = go (isNew r)
     go : (t : Bool) → stored (cond t (New (r .size)) (Match (r .size) (r .address)) ∷ l) ≡ cond t (r .size) 0 + stored l
     go true = refl
     go false = omega arith
-
--- the records of a list from record i on, of n
-abbrev pub recordsFrom : List ℕ → ℕ → ℕ → List Record
-recordsFrom list n i = records (from (rowAt list) i (n - i))
 
 pub recordsFrom-next : (list : List ℕ) (n i : ℕ) → i < n → recordsFrom list n i ≡ recordOf (rowAt list i) ∷ recordsFrom list n (i + 1)
 recordsFrom-next list n i h = ap records (from-next (rowAt list) i n h)

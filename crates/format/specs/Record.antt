@@ -6,7 +6,7 @@
 --   4       4     size: bytes covered, 1 or more, lowest byte first
 --   8       4     address: where a match begins in the store; zero in a new record
 -- Assumes nothing.
-use Prim.Native.Nat.{ℕ, zero, suc, _+_, _*_, _/_, _%_}
+use Prim.Native.Nat.{ℕ, zero, suc, _+_, _-_, _*_, _/_, _%_}
 use mathlib.Core.Bool.{Bool, not, _&&_, _||_, cond}
 use mathlib.Core.List.{List, [], _∷_, _++_}
 use lib.Dec.{eqb, leb}
@@ -53,6 +53,10 @@ records (r ∷ rs) = recordOf r ∷ records rs
 
 abbrev pub recordsOf : List ℕ → List Record
 recordsOf l = records (rowsOf l)
+
+-- the records of a list from record i on, of n
+abbrev pub recordsFrom : List ℕ → ℕ → ℕ → List Record
+recordsFrom list n i = records (from (rowAt list) i (n - i))
 
 -- number 4's opposite: kind 0 or 1, bytes 1 to 3 zero, a size, and no address in a new record
 abbrev pub wellFormed : Row → Bool

@@ -7,9 +7,9 @@ use mathlib.Core.Path.{_≡_, sym, ap, ap₂, _∙_}
 use mathlib.Core.List.{List, [], _∷_}
 use lib.ListN.{length, set, replicate, length-set, length-replicate, getD-replicate}
 use Rattle.format.specs.declared.Record.{Record}
-use Rattle.format.specs.Record.{rowAt, recordOf, recordsOf}
+use Rattle.format.specs.Record.{rowAt, recordOf, recordsOf, recordsFrom}
 use Rattle.format.specs.Meaning.{sizeOf}
-use Rattle.format.proofs.Rows.{recordsFrom, recordsFrom-next, recordsFrom-none, recordsFrom-all}
+use Rattle.format.proofs.Rows.{recordsFrom-next, recordsFrom-none, recordsFrom-all}
 use Rattle.rules.specs.Rules.{Item, mark, itemOf}
 use Rattle.linear.specs.declared.Machine.{Machine}
 use Rattle.linear.specs.Pass.{items, itemFor}

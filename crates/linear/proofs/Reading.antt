@@ -11,9 +11,9 @@ use lib.ListN.{length, getD, take, drop, set}
 use lib.Seq.{append-snoc, set-split}
 use borrow.Author.Tests.{ltb-true, ltb-false, lt-ltb, le-ltb}
 use Rattle.format.specs.declared.Record.{Record}
-use Rattle.format.specs.Record.{from, rowAt, recordOf, recordsOf}
+use Rattle.format.specs.Record.{from, rowAt, recordOf, recordsOf, recordsFrom}
 use Rattle.format.specs.Meaning.{sizeOf}
-use Rattle.format.proofs.Rows.{from-next, from-none, recordsFrom, recordsFrom-next, recordsFrom-none, recordsFrom-all, length-recordsOf}
+use Rattle.format.proofs.Rows.{from-next, from-none, recordsFrom-next, recordsFrom-none, recordsFrom-all, length-recordsOf}
 use Rattle.choice.specs.Choice.{Bit, keep, store, bitByte, bitBytes, IsChoice}
 use Rattle.area.specs.Area.{pasted, over}
 use Rattle.area.proofs.Filling.{Filling, filling-start, filling-put, filling-end}

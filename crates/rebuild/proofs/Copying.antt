@@ -9,10 +9,10 @@ use lib.Seq.{drop-drop}
 use denote.Ref.{RefT, now}
 use Rattle.format.specs.declared.Record.{Record}
 use Rattle.format.specs.declared.Record.the-variants.{New, Match}
-use Rattle.format.specs.Record.{rowAt, recordOf, recordsOf}
+use Rattle.format.specs.Record.{rowAt, recordOf, recordsOf, recordsFrom}
 use Rattle.format.specs.Meaning.{stored, rebuilt, Part, ofBlock, ofStore, partOf, partAt}
 use Rattle.format.specs.WellFormed.{Inside}
-use Rattle.format.proofs.Rows.{recordsFrom, recordsFrom-next, recordsFrom-none, recordsFrom-all, stored-cons}
+use Rattle.format.proofs.Rows.{recordsFrom-next, recordsFrom-none, recordsFrom-all, stored-cons}
 use Rattle.format.proofs.Rebuilding.{bytesIn, length-rebuilt}
 use Rattle.area.specs.Area.{pasted}
 use Rattle.area.proofs.Filling.{Filling, filling-start, filling-put, filling-end, filling-room}

@@ -7,8 +7,8 @@ use mathlib.Core.List.{List, [], _∷_, _++_, append-assoc, append-nil}
 use lib.ListN.{length, take, drop, length-append}
 use lib.Seq.{length-take-le}
 use Rattle.format.specs.declared.Record.{Record}
-use Rattle.format.specs.Record.{rowAt, recordOf, recordsOf}
-use Rattle.format.proofs.Rows.{recordsFrom, recordsFrom-next, recordsFrom-none, recordsFrom-all}
+use Rattle.format.specs.Record.{rowAt, recordOf, recordsOf, recordsFrom}
+use Rattle.format.proofs.Rows.{recordsFrom-next, recordsFrom-none, recordsFrom-all}
 use Rattle.area.proofs.Pasting.{pasted-none, pasted-append}
 use Rattle.report.specs.Text.{recordText, recordsText, Written}
 

@@ -9,13 +9,14 @@ use borrow.Author.Tests.{le-leb, lt-leb}
 use lib.ListN.{length, getD, take, drop, set}
 use lib.Seq.{take-suc, set-at, length-take-le, drop-cons, take-suc-set, drop-set-lt, append-snoc}
 use Rattle.format.specs.declared.Record.{Record}
-use Rattle.format.specs.Record.{rowAt, recordOf, recordsOf}
+use Rattle.format.specs.Record.{rowAt, recordOf, recordsOf, recordsFrom}
 use Rattle.format.specs.Meaning.{sizeOf}
-use Rattle.format.proofs.Rows.{recordsFrom, recordsFrom-next, recordsFrom-none, recordsFrom-all, length-recordsOf}
+use Rattle.format.proofs.Rows.{recordsFrom-next, recordsFrom-none, recordsFrom-all, length-recordsOf}
 use Rattle.price.specs.declared.Rates.{Rates}
 use Rattle.choice.specs.Choice.{Bit, keep, store, bitByte, bitBytes, only, either, freedom, least}
-use Rattle.choice.proofs.Path.{pickBit, follow, follow-pick}
-use Rattle.choice.proofs.Least.{after, step, least-pick, least-cost, least-fits}
+use Rattle.choice.specs.Path.{pickBit, follow, after, step}
+use Rattle.choice.proofs.Path.{follow-pick}
+use Rattle.choice.proofs.Least.{least-pick, least-cost, least-fits}
 use Rattle.choice.proofs.Lists.{length-bits, length-choice}
 use Rattle.sweep.specs.declared.Turn.{Turn}
 use Rattle.sweep.specs.Sweep.{hintByte, hintBytes, turned, bestOf, hintsOf, nextBit, forwards, Back, LeastIn}

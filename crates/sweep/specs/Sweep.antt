@@ -7,15 +7,13 @@ use mathlib.Core.List.{List, [], _∷_, _++_}
 use lib.Dec.{eqb}
 use lib.ListN.{length, drop}
 use Rattle.format.specs.declared.Record.{Record}
-use Rattle.format.specs.Record.{recordsOf}
+use Rattle.format.specs.Record.{recordsOf, recordsFrom}
 use Rattle.format.specs.Meaning.{sizeOf}
-use Rattle.format.proofs.Rows.{recordsFrom}
 use Rattle.price.specs.declared.Rates.{Rates}
 use Rattle.price.specs.Price.{RatesFit}
 use Rattle.area.specs.Area.{over}
 use Rattle.choice.specs.Choice.{Bit, keep, bitByte, bitBytes, freedom, costOf, least}
-use Rattle.choice.proofs.Path.{decide, at, best, hints}
-use Rattle.choice.proofs.Least.{after, step}
+use Rattle.choice.specs.Path.{decide, at, best, hints, after, step}
 use Rattle.sweep.specs.declared.Turn.{Turn}
 
 -- two bits in a byte: what to do after a kept, and after a stored record

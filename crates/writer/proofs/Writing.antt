@@ -10,9 +10,9 @@ use lib.Seq.{drop-drop, length-take-le}
 use Rattle.format.specs.declared.Record.{Record}
 use Rattle.format.specs.declared.Record.the-variants.{New, Match}
 use Rattle.format.specs.Limits.{versionMost}
-use Rattle.format.specs.Record.{from, rowAt, recordOf, records, recordsOf, bytesOf, encode}
+use Rattle.format.specs.Record.{from, rowAt, recordOf, records, recordsOf, bytesOf, encode, recordsFrom}
 use Rattle.format.specs.Meaning.{sizeOf, whole, stored, blockOf}
-use Rattle.format.proofs.Rows.{recordsFrom, recordsFrom-next, recordsFrom-none, recordsFrom-all, from-next, length-from, length-recordsOf}
+use Rattle.format.proofs.Rows.{recordsFrom-next, recordsFrom-none, recordsFrom-all, from-next, length-from, length-recordsOf}
 use Rattle.format.proofs.Rebuilding.{length-block, stored-most}
 use Rattle.format.proofs.Encoding.{encode-append, length-bytes, length-encode}
 use Rattle.area.specs.Area.{pasted}

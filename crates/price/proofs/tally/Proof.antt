@@ -6,8 +6,8 @@ use mathlib.Core.Path.{_≡_, sym, _∙_, ap}
 use mathlib.Core.List.{List, [], _∷_}
 use lib.ListN.{length}
 use Rattle.format.specs.declared.Record.{Record}
-use Rattle.format.specs.Record.{rowAt, recordOf, recordsOf}
-use Rattle.format.proofs.Rows.{length-recordsOf, recordsFrom, recordsFrom-all, recordsFrom-next, recordsFrom-none}
+use Rattle.format.specs.Record.{rowAt, recordOf, recordsOf, recordsFrom}
+use Rattle.format.proofs.Rows.{length-recordsOf, recordsFrom-all, recordsFrom-next, recordsFrom-none}
 use Rattle.price.specs.Price.{news}
 use Rattle.price.proofs.Bounds.{news-cons}
 use borrow.Author.Needs.{needs}

@@ -6,8 +6,7 @@ use mathlib.Core.Path.{_≡_, refl, sym, _∙_, ap}
 use mathlib.Core.List.{List, _++_}
 use lib.ListN.{length, take, drop, set, take-append-drop}
 use Rattle.format.specs.declared.Record.{Record}
-use Rattle.format.specs.Record.{rowAt, recordOf}
-use Rattle.format.proofs.Rows.{recordsFrom}
+use Rattle.format.specs.Record.{rowAt, recordOf, recordsFrom}
 use Rattle.price.specs.declared.Rates.{Rates}
 use Rattle.choice.specs.Choice.{keep, store}
 use Rattle.sweep.specs.Sweep.{hintBytes, hintsOf, bestOf, turned}
