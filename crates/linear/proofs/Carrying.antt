@@ -19,9 +19,8 @@ use Rattle.rules.proofs.ByKind.{size-item, outcome-no-match}
 use Rattle.linear.specs.declared.Machine.{Machine}
 use Rattle.linear.specs.declared.Sight.{Sight}
 use Rattle.linear.specs.declared.Move.{Move}
-use Rattle.linear.specs.declared.Step.{Step}
 use Rattle.linear.specs.Pass.{bytes, first, rest, after, stepBack, mergeIn, ended}
-use Rattle.linear.specs.Machine.{itemAt, itemIn, below, fromPlace, leftOf, afterOf, stateOf, Sighted, newCell, goneOn, fusedBack, fusedAhead, moveOf, reach, Reaches, Ready, Looked}
+use Rattle.linear.specs.Machine.{itemAt, itemIn, below, fromPlace, leftOf, afterOf, stateOf, Sighted, newCell, goneOn, fusedBack, fusedAhead, moveOf, moved, reach, Reaches, Ready, Looked}
 use Rattle.linear.proofs.Gap.{state-of, cons-of, ne-of-lt, at-other, at-same, below-next, below-set, below-put, fromPlace-next, fromPlace-none, fromPlace-set, fromPlace-put, rear-set}
 
 -- ---- the first items around a place
@@ -62,15 +61,6 @@ module _ (ks ss : List ℕ) where
     second-near i g = first-from (i + 2) (omega arith) ∙ sym (ap first (rest-after i))
 
 -- ---- a move carried out
-
-abbrev pub moved : Machine → Move → Machine
-moved m v =
-    record {
-      kinds = set (set (m .kinds) (m .right) (v .stays .kind)) (v .at) (v .made .kind);
-      sizes = set (set (m .sizes) (m .right) (v .stays .size)) (v .at) (v .made .size);
-      left = v .left;
-      right = v .right;
-    }
 
 module _ (m : Machine) (hk : length (m .kinds) ≡ 4098) (hs : length (m .sizes) ≡ 4098) (v : Move) (reached : m .right < 4097) where
   -- made at p's place or before it
@@ -231,19 +221,18 @@ module _ (rates : Rates) (m : Machine) (h : Ready rates m) (s : Sight) (w : Sigh
       inside : Inside v
       inside = rw e (inside-of-reaches (m .left) (m .right) (s .before) (s .p) o outcome-reaches)
 
-      pub place-inside : v .at < 4097
-      place-inside = inside .placed
-
-      -- the step that carries the outcome out
-      pub looked : length (m .kinds) ≡ 4098 → length (m .sizes) ≡ 4098 → (t : Step) → t .looks ≡ 1 → t .outcome ≡ o → t .list ≡ moved m v → Looked rates m t
-      looked hk hs t n d f =
-          let holds = ap stateOf f ∙ ap (λ (x : Move). stateOf (moved m x)) e ∙ carried m hk hs s w o outcome-reaches in
+      -- the step that an outcome makes
+      pub looked : length (m .kinds) ≡ 4098 → length (m .sizes) ≡ 4098 → Looked rates m (record { list = m; outcome = o; next = v; looks = 1 })
+      looked hk hs =
+          let holds = ap (λ (x : Move). stateOf (moved m x)) e ∙ carried m hk hs s w o outcome-reaches in
           let seen : o ≡ outcomeAt (testsOf rates) (first (leftOf m)) (itemIn m (m .right)) (first (afterOf m)) (first (rest (afterOf m))) =
           is ∙ (λ i. outcomeAt (testsOf rates) (w .before-is i) (w .p-is i) (w .after-is i) (w .second-is i)) in
           record {
-            one = n;
-            is = (λ i. record { outcome = d i; next = holds i }) ∙ ap (λ (x : Outcome). ended x (leftOf m) (itemIn m (m .right)) (afterOf m)) seen;
-            gap = rw f (inside .gap);
-            within = rw f (inside .within);
-            rear = rw f (put-rear m hk hs v (h .not-rear) (inside .placed) ∙ h .rear);
+            one = refl;
+            same = refl;
+            is = (λ i. record { outcome = o; next = holds i }) ∙ ap (λ (x : Outcome). ended x (leftOf m) (itemIn m (m .right)) (afterOf m)) seen;
+            placed = inside .placed;
+            gap = inside .gap;
+            within = inside .within;
+            rear = put-rear m hk hs v (h .not-rear) (inside .placed) ∙ h .rear;
           }

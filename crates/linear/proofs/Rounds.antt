@@ -5,7 +5,7 @@ use native.Mathlib.Omega.{arith}
 use mathlib.Core.Path.{_≡_, refl, sym, ap, subst, _∙_}
 use mathlib.Core.Bool.{false}
 use mathlib.Core.List.{List, [], _∷_}
-use lib.ListN.{length}
+use lib.ListN.{length, length-set}
 use Rattle.format.specs.Limits.{versionMost}
 use Rattle.format.proofs.Rows.{length-from}
 use Rattle.price.specs.declared.Rates.{Rates}
@@ -15,7 +15,7 @@ use Rattle.linear.specs.declared.Machine.{Machine}
 use Rattle.linear.specs.declared.Step.{Step}
 use Rattle.linear.specs.declared.Passed.{Passed}
 use Rattle.linear.specs.Pass.{bytes, State, Look, lookAt, Run, stopped, preceded, run, pass}
-use Rattle.linear.specs.Machine.{itemAt, itemIn, leftOf, rightOf, afterOf, Ready, Looked, Runnable, Ran}
+use Rattle.linear.specs.Machine.{itemAt, itemIn, leftOf, rightOf, afterOf, Ready, leftBy, Looked, Runnable, Ran}
 use Rattle.linear.proofs.Fusing.{Some, Starts, bytes-joined}
 use Rattle.linear.proofs.Looks.{seen, look-turns}
 use Rattle.linear.proofs.Running.{few-of-pass, Onward, onward, run-look, run-rear}
@@ -85,22 +85,22 @@ module _ (rates : Rates) where
             fits = h .fits;
           }
 
-      pub round-next : (s : Step) → Looked rates m s → length (s .list .kinds) ≡ 4098 → length (s .list .sizes) ≡ 4098 → Round rates xs (s .list) (looks + s .looks)
-      round-next s v hk hs =
+      pub round-next : (s : Step) → Looked rates m s → Round rates xs (leftBy s) (looks + s .looks)
+      round-next s v =
           let t = testsOf rates in
           let f = 2 * length xs - looks in
           let p = itemIn m (m .right) in
           let o : Look = lookAt t (leftOf m) p (afterOf m) in
-          let l : leftOf (s .list) ≡ o .next .left = ap (λ (x : Look). x .next .left) (v .is) in
-          let r : rightOf (s .list) ≡ o .next .right = ap (λ (x : Look). x .next .right) (v .is) in
+          let l : leftOf (leftBy s) ≡ o .next .left = ap (λ (x : Look). x .next .left) (v .is) in
+          let r : rightOf (leftBy s) ≡ o .next .right = ap (λ (x : Look). x .next .right) (v .is) in
           let k = onward t (priceOf rates) (merges-pay rates) f (leftOf m) p (afterOf m) on in
           let less : 2 * length xs - (looks + s .looks) ≡ f - 1 = omega (arith, v .one) in
           let u : run t f (leftOf m) (rightOf m) ≡ preceded (o .outcome) (run t (f - 1) (o .next .left) (o .next .right)) =
           ap (run t f (leftOf m)) opened ∙ run-look t f (leftOf m) p (afterOf m) (k .0) in
           let kept = look-turns t (priceOf rates) (merges-pay rates) (seen t (priceOf rates) (merges-pay rates) (leftOf m) p (afterOf m) (on .starts)) .kept in
           record {
-            full-kinds = hk;
-            full-sizes = hs;
+            full-kinds = simp length-set (ap (λ (x : Machine). length (x .kinds)) (v .same) ∙ h .full-kinds);
+            full-sizes = simp length-set (ap (λ (x : Machine). length (x .sizes)) (v .same) ∙ h .full-sizes);
             gap = v .gap;
             within = v .within;
             rear = v .rear;

@@ -5,7 +5,7 @@ use Prim.Native.Nat.{ℕ, zero, suc, _+_, _-_, _*_, _≤_, _<_}
 use mathlib.Core.Path.{_≡_}
 use mathlib.Core.Bool.{false}
 use mathlib.Core.List.{List, [], _∷_}
-use lib.ListN.{length, getD}
+use lib.ListN.{length, getD, set}
 use Rattle.format.specs.Limits.{versionMost}
 use Rattle.format.specs.Record.{from, recordsOf}
 use Rattle.price.specs.declared.Rates.{Rates}
@@ -86,6 +86,16 @@ moveOf l r b p (Merged (Before s)) = fusedBack l r p (newCell s) 1
 moveOf l r b p (Merged (After s)) = fusedAhead l r b (newCell s)
 moveOf l r b p (Merged (Pair s)) = fusedAhead l r b (newCell s)
 
+-- a machine with a move carried out
+abbrev pub moved : Machine → Move → Machine
+moved m v =
+    record {
+      kinds = set (set (m .kinds) (m .right) (v .stays .kind)) (v .at) (v .made .kind);
+      sizes = set (set (m .sizes) (m .right) (v .stays .size)) (v .at) (v .made .size);
+      left = v .left;
+      right = v .right;
+    }
+
 -- the items from p on that an outcome takes up
 abbrev pub reach : Outcome → ℕ
 reach Advance = 1
@@ -109,17 +119,22 @@ pub record Ready (rates : Rates) (m : Machine) : Type 0 where
   pub front : m .left ≡ 0 → isMatch (itemIn m (m .right)) ≡ false
   pub fits : bytes (leftOf m) + bytes (rightOf m) ≤ versionMost
 
--- the look that a step stands for
-abbrev pub lookOf : Step → Look
-lookOf s = record { outcome = s .outcome; next = stateOf (s .list) }
+-- the list that a step leaves, and the look that the step stands for
+abbrev pub leftBy : Step → Machine
+leftBy s = moved (s .list) (s .next)
 
--- what a look gives: it counts as one, and is the look of the definition
+abbrev pub lookOf : Step → Look
+lookOf s = record { outcome = s .outcome; next = stateOf (leftBy s) }
+
+-- what a look gives: it counts as one, hands on the list that it was made on, and is the look of the definition
 pub record Looked (rates : Rates) (m : Machine) (s : Step) : Type 0 where
   pub one : s .looks ≡ 1
+  pub same : s .list ≡ m
   pub is : lookOf s ≡ lookAt (testsOf rates) (leftOf m) (itemIn m (m .right)) (afterOf m)
-  pub gap : s .list .left ≤ s .list .right
-  pub within : s .list .right ≤ 4097
-  pub rear : itemIn (s .list) 4097 ≡ mark
+  pub placed : s .next .at < 4097
+  pub gap : s .next .left ≤ s .next .right
+  pub within : s .next .right ≤ 4097
+  pub rear : itemIn (leftBy s) 4097 ≡ mark
 
 -- a machine at the start of a pass: only the front mark comes before p
 pub record Loaded (m : Machine) (xs : List Item) : Type 0 where

@@ -43,10 +43,12 @@ pub struct Move {
     pub stays: Cell,
 }
 
-// The list after a look, with what came of the look and what it counts. (The list first: the compiler then spares the copies between looks.)
+// What came of a look, with the list that it was made on: its outcome, what this does to the list, and what the look counts. (The list comes first,
+// or the compiler copies it between looks more often.)
 pub struct Step {
     pub list: Machine,
     pub outcome: Outcome,
+    pub next: Move,
     pub looks: u32,
 }
 
@@ -148,8 +150,8 @@ fn move_of(left: usize, right: usize, sight: Sight, outcome: Outcome) -> Move
     }
 }
 
-// One look at p.
-fn look(mut machine: Machine, rates: Rates) -> Step
+// One look at p: what it comes to, by what it sees on the list.
+fn look(machine: Machine, rates: Rates) -> Step
     requires { ⌜ Ready rates machine ⌝ }
     ensures { λ r. ⌜ Looked rates machine r ⌝ }
 {
@@ -158,21 +160,15 @@ fn look(mut machine: Machine, rates: Rates) -> Step
     let sight = sight_of(&machine.kinds, &machine.sizes, left, right);
     let outcome = rules::outcome_at(rates, sight.before, sight.p, sight.after, sight.second);
     let next = move_of(left, right, sight, outcome);
-    let at = next.at;
-    machine.kinds[right] = next.stays.kind;
-    machine.sizes[right] = next.stays.size;
-    machine.kinds[at] = next.made.kind;
-    machine.sizes[at] = next.made.size;
-    machine.left = next.left;
-    machine.right = next.right;
     Step {
         list: machine,
         outcome,
+        next,
         looks: 1,
     }
 }
 
-// Looks until p is the rear, and counts them.
+// Looks until p is the rear, does to the list what each look comes to, and counts the looks.
 fn run(machine: Machine, rates: Rates) -> Passed
     requires { ⌜ Runnable rates machine ⌝ }
     ensures { λ r. ⌜ Ran rates (rightOf machine) r ⌝ }
@@ -183,6 +179,15 @@ fn run(machine: Machine, rates: Rates) -> Passed
         let step = look(list, rates);
         list = step.list;
         looks += step.looks;
+        let next = step.next;
+        let right = list.right;
+        let at = next.at;
+        list.kinds[right] = next.stays.kind;
+        list.sizes[right] = next.stays.size;
+        list.kinds[at] = next.made.kind;
+        list.sizes[at] = next.made.size;
+        list.left = next.left;
+        list.right = next.right;
     }
     Passed { list, looks }
 }

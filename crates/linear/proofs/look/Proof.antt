@@ -1,9 +1,8 @@
 -- `linear::look` meets its contract: the outcome is that of the items around p, and the list is what its move makes of it. Assumes nothing.
 use Prim.Native.Nat.{ℕ}
-use native.Mathlib.Omega.{arith}
-use mathlib.Core.Path.{_≡_, refl}
+use mathlib.Core.Path.{_≡_}
 use lib.ListN.{length}
-use Rattle.linear.proofs.Carrying.{sizes-fit, outcome-reaches, place-inside, looked}
+use Rattle.linear.proofs.Carrying.{sizes-fit, outcome-reaches, looked}
 use borrow.Author.Needs.{needs, length-unmapped}
 use Rattle.linear.proofs.look.Statement.{statement}
 use Rattle.linear.proofs.look.Tie as tie
@@ -22,39 +21,6 @@ move-of-requires c κs =
     let seen = c .before .sight-of in
     outcome-reaches (u .args .rates) (u .args .t1) (u .pre) (seen .result) (seen .ensures) (c .outcome-at .result) (c .outcome-at .ensures)
 
-element-write-machine : tie.Need-element-write-machine
-element-write-machine c = search needs
-
-mul-machine : tie.Need-mul-machine
-mul-machine c = search needs
-
-element-write-machine-2 : tie.Need-element-write-machine-2
-element-write-machine-2 c = search needs
-
-element-write-machine-3 : tie.Need-element-write-machine-3
-element-write-machine-3 c =
-    let u = c .before .before .before .before .before .before in
-    let seen = c .before .before .sight-of in
-    let o = c .before .outcome-at in
-    let v = c .move-of in
-    omega (arith, place-inside (u .args .rates) (u .args .t1) (u .pre) (seen .result) (seen .ensures) (o .result) (o .ensures) (v .result) (v .ensures))
-
-mul-machine-2 : tie.Need-mul-machine-2
-mul-machine-2 c =
-    let u = c .before .before .before .before .before .before in
-    let seen = c .before .before .sight-of in
-    let o = c .before .outcome-at in
-    let v = c .move-of in
-    omega (arith, place-inside (u .args .rates) (u .args .t1) (u .pre) (seen .result) (seen .ensures) (o .result) (o .ensures) (v .result) (v .ensures))
-
-element-write-machine-4 : tie.Need-element-write-machine-4
-element-write-machine-4 c =
-    let u = c .before .before .before .before .before .before in
-    let seen = c .before .before .sight-of in
-    let o = c .before .outcome-at in
-    let v = c .move-of in
-    omega (arith, place-inside (u .args .rates) (u .args .t1) (u .pre) (seen .result) (seen .ensures) (o .result) (o .ensures) (v .result) (v .ensures))
-
 returns : tie.Need-returns
 returns c =
     let u = c .before .before .before .before .before .before in
@@ -64,7 +30,7 @@ returns c =
     let full = u .good .0 .1 .1 in
     let hk : length (u .args .t1 .kinds) ≡ 4098 = length-unmapped ℕ (u .args .t1 .kinds) 4098 (full .0 .1 .0 .1) in
     let hs : length (u .args .t1 .sizes) ≡ 4098 = length-unmapped ℕ (u .args .t1 .sizes) 4098 (full .1 .0 .1 .0 .1) in
-    looked (u .args .rates) (u .args .t1) (u .pre) (seen .result) (seen .ensures) (o .result) (o .ensures) (v .result) (v .ensures) hk hs _ refl refl refl
+    looked (u .args .rates) (u .args .t1) (u .pre) (seen .result) (seen .ensures) (o .result) (o .ensures) (v .result) (v .ensures) hk hs
 
 pub look-spec : {M : Type 1} → statement M
 look-spec =
@@ -73,10 +39,4 @@ look-spec =
     sight-of-requires
     outcome-at-requires
     move-of-requires
-    element-write-machine
-    mul-machine
-    element-write-machine-2
-    element-write-machine-3
-    mul-machine-2
-    element-write-machine-4
     returns)

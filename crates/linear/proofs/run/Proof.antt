@@ -2,8 +2,9 @@
 -- what they come to. The measure is the number of looks left. Assumes nothing.
 use Prim.Native.Nat.{_*_, _-_}
 use native.Mathlib.Omega.{arith}
-use mathlib.Core.Path.{refl}
+use mathlib.Core.Path.{refl, ap}
 use lib.ListN.{length}
+use Rattle.linear.specs.declared.Machine.{Machine}
 use Rattle.linear.specs.Machine.{rightOf}
 use Rattle.linear.proofs.Rounds.{Round, round-start, looks-left, ready-of-round, round-next, round-end}
 use borrow.Author.Needs.{needs}
@@ -20,33 +21,69 @@ loop-holds : tie.Need-loop-holds Inv-loop μ-loop
 loop-holds c = round-start (c .args .rates) (c .args .machine) (c .pre) (search needs) (search needs)
 
 look-requires : tie.Need-look-requires Inv-loop μ-loop
-look-requires c κs = ready-of-round (c .before .before .before .args .rates) (rightOf (c .before .before .before .args .machine)) (c .before .before .loop .list) (c .before .before .loop .looks) (c .before .before .loop .inv) (omega arith) (c .before .before .before .pre .rates-fit)
+look-requires c κs =
+    let u = c .before .before in
+    let l = c .before .loop in
+    ready-of-round (u .args .rates) (rightOf (u .args .machine)) (l .list) (l .looks) (l .inv) (omega arith) (u .pre .rates-fit)
 
 add-looks : tie.Need-add-looks Inv-loop μ-loop
 add-looks c =
-    let g = c .before .before .before .before .before .before .args in
-    let l = c .before .before .before .before .before .loop in
+    let g = c .before .before .before .before .before .args in
+    let l = c .before .before .before .before .loop in
     omega (arith, c .before .before .look .ensures .one, l .inv .few, looks-left (g .rates) (rightOf (g .machine)) (l .list) (l .looks) (l .inv) (omega arith))
+
+element-write-list : tie.Need-element-write-list Inv-loop μ-loop
+element-write-list c = omega (arith, ap (λ (m : Machine). m .right) (c .before .before .before .look .ensures .same))
+
+mul-list : tie.Need-mul-list Inv-loop μ-loop
+mul-list c = omega (arith, ap (λ (m : Machine). m .right) (c .before .before .before .look .ensures .same))
+
+element-write-list-2 : tie.Need-element-write-list-2 Inv-loop μ-loop
+element-write-list-2 c = omega (arith, ap (λ (m : Machine). m .right) (c .before .before .before .look .ensures .same))
+
+element-write-list-3 : tie.Need-element-write-list-3 Inv-loop μ-loop
+element-write-list-3 c = search needs
+
+mul-list-2 : tie.Need-mul-list-2 Inv-loop μ-loop
+mul-list-2 c = search needs
+
+element-write-list-4 : tie.Need-element-write-list-4 Inv-loop μ-loop
+element-write-list-4 c = search needs
 
 loop-less : tie.Need-loop-less Inv-loop μ-loop
 loop-less c =
     let g = c .before .before .before .before .before .before .args in
     let l = c .before .before .before .before .before .loop in
-    omega (arith, c .before .before .look .ensures .one, looks-left (g .rates) (rightOf (g .machine)) (l .list) (l .looks) (l .inv) (omega arith))
+    omega (arith, c .before .before .before .look .ensures .one, looks-left (g .rates) (rightOf (g .machine)) (l .list) (l .looks) (l .inv) (omega arith))
 
 loop-again : tie.Need-loop-again Inv-loop μ-loop
 loop-again c =
     let g = c .before .before .before .before .before .before .args in
     let l = c .before .before .before .before .before .loop in
-    round-next (g .rates) (rightOf (g .machine)) (l .list) (l .looks) (l .inv) (omega arith) (c .before .before .look .result) (c .before .before .look .ensures) (search needs) (search needs)
+    let k = c .before .before .before .look in
+    round-next (g .rates) (rightOf (g .machine)) (l .list) (l .looks) (l .inv) (omega arith) (k .result) (k .ensures)
 
 returns : tie.Need-returns Inv-loop μ-loop
 returns c =
-    let g = c .before .before .before .args in
-    let l = c .before .before .loop in
+    let g = c .before .before .args in
+    let l = c .before .loop in
     round-end (g .rates) (rightOf (g .machine)) (l .list) (l .looks) (l .inv) (omega arith) _ refl refl
 
 pub run-spec : {M : Type 1} → statement M
 run-spec =
     tie.close
-    (tie.spec Inv-loop μ-loop loop-holds look-requires add-looks loop-less loop-again returns)
+    (tie.spec
+    Inv-loop
+    μ-loop
+    loop-holds
+    look-requires
+    add-looks
+    element-write-list
+    mul-list
+    element-write-list-2
+    element-write-list-3
+    mul-list-2
+    element-write-list-4
+    loop-less
+    loop-again
+    returns)
