@@ -5,7 +5,7 @@
  * Link with libcontroller.a.
  *
  * SURROUNDINGS. The library asks for memcpy and memset, and for nothing else. It has no data of its own. Stack needed, measured by
- * tests/stack.c: measure, rebuild, check and partition under 1 KiB each, pass 45 KiB (its record of kinds and sizes goes by value
+ * tests/stack.c: measure, rebuild, check and partition under 1 KiB each, pass 65 KiB (its record of kinds and sizes goes by value
  * through each look).
  *
  * AREAS. An area is a pointer and its length in bytes. A length of 0 goes with any pointer that is not NULL. No area that is lent for

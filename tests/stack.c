@@ -4,7 +4,7 @@
  * a call may write a byte that looks like one. The few frames that lead to the call are counted with it, and `nothing` shows them
  * alone. The lists are full (4,096 records) and lead through the merges of the pass, a stored and a kept list, and refusals.
  *
- * One line for each call, in bytes. Exit 0 where none takes more than controller.h says: 1 KiB, and 48 KiB for pass; else 1.
+ * One line for each call, in bytes. Exit 0 where none takes more than controller.h says: 1 KiB, and 68 KiB for pass; else 1.
  */
 #define _XOPEN_SOURCE 700
 #include <stdint.h>
@@ -116,7 +116,7 @@ static const struct call {
     { "rebuild", call_rebuild, 0, KIB },
     { "check", call_check, 0, KIB },
     { "partition", call_partition, 1, KIB },
-    { "pass", call_pass, 1, 48 * KIB },
+    { "pass", call_pass, 1, 68 * KIB },
 };
 
 enum { CALLS = sizeof calls / sizeof *calls };
