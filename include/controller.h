@@ -1,12 +1,16 @@
 /* controller.h - the calls of the deposit box for a controller in C.
  *
- * Scope: the lists of document 01 ("The list"): what they measure, whether they are sound, the version they rebuild, and the list that
- * costs least. Numbers and byte areas go in; nothing is allocated, nothing is kept between calls, and every call returns on any input.
- * Link with libcontroller.a.
+ * Scope: the lists of docs/SPECIFICATION.md ("The list"): what they measure, whether they are sound, the version they rebuild, and the
+ * list that costs least. Numbers and byte areas go in; nothing is allocated, nothing is kept between calls, and every call returns on
+ * any input. So a call may be made from any thread, and several at once, as long as no area that one writes is used by another. Link
+ * with libcontroller.a.
  *
  * SURROUNDINGS. The library asks for memcpy and memset, and for nothing else. It has no data of its own. Stack needed, measured by
  * tests/stack.c: measure, rebuild, check and partition under 1 KiB each, pass 65 KiB (its record of kinds and sizes goes by value
  * through each look).
+ *
+ * NAMES. The five calls have plain names. Where they collide with others, give them a prefix: objcopy --redefine-sym measure=box_measure,
+ * and so for rebuild, check, partition and pass, on the archive; and declare them so.
  *
  * AREAS. An area is a pointer and its length in bytes. A length of 0 goes with any pointer that is not NULL. No area that is lent for
  * writing may share a byte with another area of the same call.
@@ -67,6 +71,17 @@ extern "C" {
 /* The least answer area. */
 #define ANSWER_BYTES 32
 
+/* The version of this library: it grows when a call, an answer or a number changes. */
+#define CONTROLLER_VERSION 1
+
+/* E is 1 to E_MOST, F is 1 to F_MOST. */
+#define E_MOST 255
+#define F_MOST 65535
+
+/* The kinds of a record. */
+#define KIND_NEW 0
+#define KIND_MATCH 1
+
 /* Bytes of one record, and the most records of a list. */
 #define RECORD_BYTES 12
 #define RECORDS_MOST 4096
@@ -89,6 +104,40 @@ enum {
     BAD_BLOCK_LENGTH = 10,
     NO_SUCH_RECORD = 11
 };
+
+/* A sentence for a number. */
+static inline const char *number_text(uint32_t number)
+{
+    switch (number) {
+    case ACCEPTED: return "accepted";
+    case BAD_PRICE: return "E or F is outside its range";
+    case TOO_LONG: return "the version or the store is too long";
+    case BAD_LIST_LENGTH: return "the list's length is no multiple of 12, or over 49,152";
+    case MALFORMED_RECORD: return "a record is malformed";
+    case ADJACENT_NEW_RECORDS: return "a new record stands right after a new one";
+    case BAD_SIZES: return "the sizes do not add up to the version's length, or pass the greatest length of one";
+    case OUTSIDE_STORE: return "a match runs beyond the store";
+    case MISMATCH: return "a match's bytes differ from the version";
+    case AREA_TOO_SHORT: return "an area is too short";
+    case BAD_BLOCK_LENGTH: return "the stored block is not as long as the new sizes together";
+    case NO_SUCH_RECORD: return "there is no such record";
+    default: return "no number of this library";
+    }
+}
+
+/* The fields of an answer area. */
+static inline uint32_t answer_word(const uint8_t *answer, size_t at)
+{
+    return (uint32_t)answer[at] | (uint32_t)answer[at + 1] << 8 | (uint32_t)answer[at + 2] << 16 | (uint32_t)answer[at + 3] << 24;
+}
+
+static inline uint32_t answer_number(const uint8_t *answer) { return answer_word(answer, 0); }
+static inline uint32_t answer_place(const uint8_t *answer) { return answer_word(answer, 4); }
+static inline uint64_t answer_cost(const uint8_t *answer) { return answer_word(answer, 8) | (uint64_t)answer_word(answer, 12) << 32; }
+static inline uint32_t answer_entries(const uint8_t *answer) { return answer_word(answer, 16); }
+static inline uint32_t answer_stored(const uint8_t *answer) { return answer_word(answer, 20); }
+static inline uint32_t answer_looks(const uint8_t *answer) { return answer_word(answer, 24); }
+static inline uint32_t answer_whole(const uint8_t *answer) { return answer_word(answer, 28); }
 
 /* measure - what a list costs.
  *
@@ -136,7 +185,8 @@ uint32_t check(const uint8_t *list, size_t list_len,
  * Does: of all ways to keep each match or to store its bytes again, takes the one whose list costs least at the price of E and F, new
  *   records that come to stand next to each other fused; of several that cost the same, the one that keeps at the first record where
  *   they differ.
- * Areas: list, of version against store; choice, 1 byte for each record; list_area, as long as list; block_area, as long as version.
+ * Areas: version, the bytes to be kept; store, the old data; list, which describes version against store; choice, 1 byte for each
+ *   record; list_area, as long as list; block_area, as long as version.
  * Writes: the first bytes of choice, one for each record (0 kept as match, 1 new); the first bytes of list_area, the new list, 12 for
  *   each of its entries; the first bytes of block_area, its stored block; bytes beyond are unchanged. answer (cost, entries and stored
  *   bytes of the new list).
@@ -154,10 +204,10 @@ uint32_t partition(uint32_t e, uint32_t f,
 
 /* pass - the published linear method, look by look.
  *
- * Does: goes through the list with one mark, and merges a short match into new neighbours, or two short matches into a new record, as
- *   document 01 writes the four merges out; one look at a record at a time, at most 2n - 1 of them for n records.
+ * Does: moves a cursor over the list, and merges a short match into new neighbours, or two short matches into a new record, by the five
+ *   rules of docs/SPECIFICATION.md ("Pass"); one look at a record at a time, at most 2n - 1 of them for n records.
  * Areas, writes, refuses, on refusal, returns: as for partition. answer also gives the looks. The list costs no less than partition's
- *   and no more than the one handed in. */
+ *   and no more than the one handed in. It is no faster: on 4,096 short records it takes some four times as long as partition. */
 uint32_t pass(uint32_t e, uint32_t f,
               const uint8_t *list, size_t list_len,
               const uint8_t *version, size_t version_len,

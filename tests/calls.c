@@ -48,6 +48,7 @@ static int filled(const uint8_t *bytes, size_t from, size_t length)
     return 1;
 }
 
+/* A field by its offset, which holds the readers of controller.h to the layout. */
 static uint64_t field(size_t offset, size_t bytes)
 {
     uint64_t n = 0;
@@ -56,10 +57,18 @@ static uint64_t field(size_t offset, size_t bytes)
     return n;
 }
 
+/* Whether the readers give what stands at each offset. */
+static int read_by_offset(void)
+{
+    return answer_number(answer) == field(0, 4) && answer_place(answer) == field(4, 4) && answer_cost(answer) == field(8, 8)
+        && answer_entries(answer) == field(16, 4) && answer_stored(answer) == field(20, 4) && answer_looks(answer) == field(24, 4)
+        && answer_whole(answer) == field(28, 4);
+}
+
 /* Whether the answer area holds just these numbers, and what lies beyond is as it was. */
 static int answered(uint32_t number, uint32_t place, uint64_t cost, uint32_t entries, uint32_t stored, uint32_t looks, uint32_t whole)
 {
-    return field(0, 4) == number && field(4, 4) == place && field(8, 8) == cost && field(16, 4) == entries && field(20, 4) == stored
+    return read_by_offset() && field(0, 4) == number && field(4, 4) == place && field(8, 8) == cost && field(16, 4) == entries && field(20, 4) == stored
         && field(24, 4) == looks && field(28, 4) == whole && filled(answer, ANSWER_BYTES, sizeof answer);
 }
 

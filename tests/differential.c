@@ -197,8 +197,7 @@ static struct given {
 
 static struct given read_answer(const uint8_t *b)
 {
-    struct given g = { get32(b), get32(b + 4), get32(b + 8) | (uint64_t)get32(b + 12) << 32,
-                       get32(b + 16), get32(b + 20), get32(b + 24), get32(b + 28) };
+    struct given g = { answer_number(b), answer_place(b), answer_cost(b), answer_entries(b), answer_stored(b), answer_looks(b), answer_whole(b) };
     return g;
 }
 

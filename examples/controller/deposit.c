@@ -208,22 +208,13 @@ struct written {
 typedef uint32_t divide(uint32_t, uint32_t, const uint8_t *, size_t, const uint8_t *, size_t, const uint8_t *, size_t,
                         uint8_t *, size_t, uint8_t *, size_t, uint8_t *, size_t, uint8_t *, size_t);
 
-static uint64_t number_at(const uint8_t *at, int bytes)
-{
-    uint64_t number = 0;
-    while (bytes > 0)
-        number = number << 8 | at[--bytes];
-    return number;
-}
-
 /* Takes an answer area apart, where the call was accepted. */
 static struct answer answer_of(const char *call, const uint8_t *area)
 {
-    const uint32_t number = (uint32_t)number_at(area, 4);
+    const uint32_t number = answer_number(area);
     if (number != ACCEPTED)
-        fail("%s refused: number %" PRIu32 " at %" PRIu64, call, number, number_at(area + 4, 4));
-    return (struct answer){ number_at(area + 8, 8), (uint32_t)number_at(area + 16, 4), (uint32_t)number_at(area + 20, 4),
-                            (uint32_t)number_at(area + 28, 4) };
+        fail("%s refused: %s, at %" PRIu32, call, number_text(number), answer_place(area));
+    return (struct answer){ answer_cost(area), answer_entries(area), answer_stored(area), answer_whole(area) };
 }
 
 static struct answer measure_found(const struct deposit *d)
