@@ -66,7 +66,7 @@ wellFormed r = leb (r .kind) 1 && eqb (r .byte1) 0 && eqb (r .byte2) 0 && eqb (r
 abbrev pub listFits : List ℕ → Bool
 listFits l = leb (length l) listMost && eqb (length l % 12) 0
 
--- 4 bytes, lowest first
+-- a number below 2³² as 4 bytes, lowest first
 abbrev pub word : ℕ → List ℕ
 word x = x % 256 ∷ x / 256 % 256 ∷ x / 65536 % 256 ∷ x / 16777216 ∷ []
 
