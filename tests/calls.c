@@ -1,84 +1,32 @@
-/* calls.c - the calls of controller.h, accepted and refused, at the edges of document 01, with every area's last bytes watched.
+/* calls.c - the calls of controller.h, case by case, against what is worked out by hand from docs/SPECIFICATION.md.
  *
- * Each area is longer than the call needs and is filled beforehand; what a call should not write must still hold the filling.
+ * Lists are written as text: "N5 M19@0" is a new record of 5 bytes and a match of 19 at address 0. A record may be as wrong as a case
+ * needs it: X is kind 2, N may have an address, and "!2" sets byte 2 to 7. Every area is longer than what a case lends of it and is
+ * filled beforehand, and after the call it is looked at to its last byte: what the call should not write must still hold the filling.
  * Exit 0 and one line, with the number of cases, where all is as it should be, else 1 and a line for each case that is not.
  */
-#include <inttypes.h>
 #include <stdio.h>
 #include <stdlib.h>
 #include <string.h>
 
 #include "controller.h"
 
-#define CASES 34
+#define CASES 269
 #define FILL 0xA5
 #define AREA 256
 
 static int cases, wrong;
 
-static void expect(const char *what, int ok)
+static void expect(const char *call, const char *what, int ok)
 {
     cases++;
     if (!ok) {
         wrong++;
-        printf("calls: %s\n", what);
+        printf("calls: %s, %s\n", call, what);
     }
 }
 
-/* ---- Areas ---- */
-
-static uint8_t answer[ANSWER_BYTES + 8];
-static uint8_t area[AREA], choice[AREA], list_area[AREA], block_area[AREA];
-
-static void fill_areas(void)
-{
-    memset(answer, FILL, sizeof answer);
-    memset(area, FILL, sizeof area);
-    memset(choice, FILL, sizeof choice);
-    memset(list_area, FILL, sizeof list_area);
-    memset(block_area, FILL, sizeof block_area);
-}
-
-/* Whether the bytes from `from` on still hold the filling. */
-static int filled(const uint8_t *bytes, size_t from, size_t length)
-{
-    for (size_t i = from; i < length; i++)
-        if (bytes[i] != FILL)
-            return 0;
-    return 1;
-}
-
-/* A field by its offset, which holds the readers of controller.h to the layout. */
-static uint64_t field(size_t offset, size_t bytes)
-{
-    uint64_t n = 0;
-    for (size_t i = bytes; i > 0; i--)
-        n = n << 8 | answer[offset + i - 1];
-    return n;
-}
-
-/* Whether the readers give what stands at each offset. */
-static int read_by_offset(void)
-{
-    return answer_number(answer) == field(0, 4) && answer_place(answer) == field(4, 4) && answer_cost(answer) == field(8, 8)
-        && answer_entries(answer) == field(16, 4) && answer_stored(answer) == field(20, 4) && answer_looks(answer) == field(24, 4)
-        && answer_whole(answer) == field(28, 4);
-}
-
-/* Whether the answer area holds just these numbers, and what lies beyond is as it was. */
-static int answered(uint32_t number, uint32_t place, uint64_t cost, uint32_t entries, uint32_t stored, uint32_t looks, uint32_t whole)
-{
-    return read_by_offset() && field(0, 4) == number && field(4, 4) == place && field(8, 8) == cost && field(16, 4) == entries && field(20, 4) == stored
-        && field(24, 4) == looks && field(28, 4) == whole && filled(answer, ANSWER_BYTES, sizeof answer);
-}
-
-static int refused(uint32_t number, uint32_t place)
-{
-    return answered(number, place, 0, 0, 0, 0, 0) && filled(area, 0, AREA) && filled(choice, 0, AREA) && filled(list_area, 0, AREA)
-        && filled(block_area, 0, AREA);
-}
-
-/* ---- Lists ---- */
+/* ---- Lists as text ---- */
 
 static void put_record(uint8_t *list, size_t i, uint8_t kind, uint32_t size, uint32_t address)
 {
@@ -91,155 +39,481 @@ static void put_record(uint8_t *list, size_t i, uint8_t kind, uint32_t size, uin
     }
 }
 
-/* N5 M19 N5: 29 bytes of 'A', of which the store has 19. */
-static uint8_t items[3 * RECORD_BYTES], version[29], store[19], block[10];
-
-static void set_up(void)
+/* Writes the list that a text stands for, and gives its length in bytes. */
+static size_t list_of(const char *text, uint8_t *list)
 {
-    memset(version, 'A', sizeof version);
-    memset(store, 'A', sizeof store);
-    memset(block, 'A', sizeof block);
-    put_record(items, 0, 0, 5, 0);
-    put_record(items, 1, 1, 19, 0);
-    put_record(items, 2, 0, 5, 0);
-    fill_areas();
+    size_t n = 0;
+    while (*text) {
+        uint8_t kind = *text == 'N' ? KIND_NEW : *text == 'M' ? KIND_MATCH : 2;
+        char *end;
+        uint32_t size = (uint32_t)strtoul(text + 1, &end, 10), address = 0;
+        if (*end == '@')
+            address = (uint32_t)strtoul(end + 1, &end, 10);
+        put_record(list, n, kind, size, address);
+        if (*end == '!')
+            list[RECORD_BYTES * n + strtoul(end + 1, &end, 10)] = 7;
+        n++;
+        text = end + (*end == ' ');
+    }
+    return RECORD_BYTES * n;
 }
 
-/* ---- The calls that read ---- */
+/* ---- Areas and answers ---- */
+
+static uint8_t list[AREA], answer[ANSWER_BYTES + 8];
+static uint8_t area[AREA], choice[AREA], list_area[AREA], block_area[AREA];
+
+/* Fills every area that a call may write. */
+static void fill_areas(void)
+{
+    memset(answer, FILL, sizeof answer);
+    memset(area, FILL, AREA);
+    memset(choice, FILL, AREA);
+    memset(list_area, FILL, AREA);
+    memset(block_area, FILL, AREA);
+}
+
+/* Whether an area begins with n bytes, and then still holds the filling. */
+static int holds(const uint8_t *bytes, const void *front, size_t n)
+{
+    if (memcmp(bytes, front, n) != 0)
+        return 0;
+    for (size_t i = n; i < AREA; i++)
+        if (bytes[i] != FILL)
+            return 0;
+    return 1;
+}
+
+static int untouched(void)
+{
+    return holds(area, "", 0) && holds(choice, "", 0) && holds(list_area, "", 0) && holds(block_area, "", 0);
+}
+
+struct values {
+    uint32_t number, place;
+    uint64_t cost;
+    uint32_t entries, stored, looks, whole;
+};
+
+/* A field of the answer area by its offset, which holds the readers of controller.h to the layout. */
+static uint64_t field(size_t offset, size_t bytes)
+{
+    uint64_t n = 0;
+    for (size_t i = bytes; i > 0; i--)
+        n = n << 8 | answer[offset + i - 1];
+    return n;
+}
+
+static int read_by_offset(void)
+{
+    return answer_number(answer) == field(0, 4) && answer_place(answer) == field(4, 4) && answer_cost(answer) == field(8, 8)
+        && answer_entries(answer) == field(16, 4) && answer_stored(answer) == field(20, 4) && answer_looks(answer) == field(24, 4)
+        && answer_whole(answer) == field(28, 4);
+}
+
+/* Whether a call returned this number, and the answer area holds just these values, with what lies beyond as it was. */
+static int answered(uint32_t returned, struct values v)
+{
+    for (size_t i = ANSWER_BYTES; i < sizeof answer; i++)
+        if (answer[i] != FILL)
+            return 0;
+    return returned == v.number && read_by_offset() && field(0, 4) == v.number && field(4, 4) == v.place && field(8, 8) == v.cost
+        && field(16, 4) == v.entries && field(20, 4) == v.stored && field(24, 4) == v.looks && field(28, 4) == v.whole;
+}
+
+static int refused(uint32_t returned, uint32_t number, uint32_t place)
+{
+    return answered(returned, (struct values){ .number = number, .place = place }) && untouched();
+}
+
+/* Whether a call with an answer area that is too short returned 9 and wrote nothing. */
+static int not_made(uint32_t returned)
+{
+    for (size_t i = 0; i < sizeof answer; i++)
+        if (answer[i] != FILL)
+            return 0;
+    return returned == AREA_TOO_SHORT && untouched();
+}
+
+/* ---- Measure ---- */
+
+static uint32_t measured(uint32_t e, uint32_t f, const uint8_t *bytes, size_t length)
+{
+    fill_areas();
+    return measure(e, f, bytes, length, answer, sizeof answer);
+}
+
+/* Cost is P for each record and 1 for each new byte: 10 * 4 + 12; 16,711,425 * 2 + 3; 10 * 2 + 16,777,215. */
+static const struct {
+    const char *what;
+    uint32_t e, f;
+    const char *list;
+    struct values want;
+} measures[] = {
+    { "no records", 10, 1, "", { 0 } },
+    { "both kinds", 10, 1, "N5 M19@0 M4@7 N7", { .cost = 52, .entries = 4, .stored = 12, .whole = 35 } },
+    { "E 255, F 65535", 255, 65535, "M8@1 N3", { .cost = 33422853, .entries = 2, .stored = 3, .whole = 11 } },
+    { "E 1, F 1", 1, 1, "M8@1", { .cost = 1, .entries = 1, .whole = 8 } },
+    { "sizes of 16777216", 10, 1, "N16777215 M1@0", { .cost = 16777235, .entries = 2, .stored = 16777215, .whole = 16777216 } },
+    { "E 0", 0, 1, "N5", { .number = 1 } },
+    { "E 256", 256, 1, "N5", { .number = 1 } },
+    { "F 0", 10, 0, "N5", { .number = 1 } },
+    { "F 65536", 10, 65536, "N5", { .number = 1 } },
+    { "kind 2", 10, 1, "N5 X5@0", { .number = 4, .place = 1 } },
+    { "byte 1 of a new record", 10, 1, "N5!1", { .number = 4 } },
+    { "byte 2 of a new record", 10, 1, "N5!2", { .number = 4 } },
+    { "byte 3 of a new record", 10, 1, "N5!3", { .number = 4 } },
+    { "byte 1 of a match", 10, 1, "N5 M5@0!1", { .number = 4, .place = 1 } },
+    { "byte 2 of a match", 10, 1, "N5 M5@0!2", { .number = 4, .place = 1 } },
+    { "byte 3 of a match", 10, 1, "N5 M5@0!3", { .number = 4, .place = 1 } },
+    { "a new record of size 0", 10, 1, "N0", { .number = 4 } },
+    { "a match of size 0", 10, 1, "N5 M6@0 M0@0", { .number = 4, .place = 2 } },
+    { "new with address 1", 10, 1, "N5@1", { .number = 4 } },
+    { "new with address 256", 10, 1, "M1@0 N5@256", { .number = 4, .place = 1 } },
+    { "new with address 65536", 10, 1, "N1 M1@0 N5@65536", { .number = 4, .place = 2 } },
+    { "new with address 16777216", 10, 1, "N5@16777216", { .number = 4 } },
+    { "new after new", 10, 1, "M5@0 N5 N5", { .number = 5, .place = 2 } },
+    { "sizes of 16777217", 10, 1, "N16777215 M1@0 M1@0", { .number = 6, .place = 2 } },
+    { "one record of 16777217", 10, 1, "N16777217", { .number = 6 } },
+    { "sizes that pass 2^32", 10, 1, "N1 M4294967295@0", { .number = 6, .place = 1 } },
+    { "1 before 4", 0, 1, "N0", { .number = 1 } },
+    { "4 before 5", 10, 1, "N5 N0", { .number = 4, .place = 1 } },
+    { "5 before 6", 10, 1, "N5 N16777216", { .number = 5, .place = 1 } },
+    { "4 before 6", 10, 1, "N5 M16777216@0!1", { .number = 4, .place = 1 } },
+    { "6 at 1 before 4 at 2", 10, 1, "N5 M16777216@0 N0", { .number = 6, .place = 1 } },
+    { "5 at 1 before 4 at 2", 10, 1, "N5 N5 N0", { .number = 5, .place = 1 } },
+};
 
 static void test_measure(void)
 {
-    set_up();
-    expect("measure accepts", measure(10, 1, items, sizeof items, answer, sizeof answer) == ACCEPTED && answered(0, 0, 40, 3, 10, 0, 29));
-    set_up();
-    expect("measure of no records", measure(10, 1, items, 0, answer, sizeof answer) == ACCEPTED && answered(0, 0, 0, 0, 0, 0, 0));
-    set_up();
-    expect("measure, E 256", measure(256, 1, items, sizeof items, answer, sizeof answer) == BAD_PRICE && refused(1, 0));
-    set_up();
-    expect("measure, 35 bytes", measure(10, 1, items, 35, answer, sizeof answer) == BAD_LIST_LENGTH && refused(3, 0));
-    set_up();
-    put_record(items, 1, 2, 19, 0);
-    expect("measure, kind 2", measure(10, 1, items, sizeof items, answer, sizeof answer) == MALFORMED_RECORD && refused(4, 1));
-    set_up();
-    put_record(items, 1, 0, 19, 0);
-    expect("measure, new after new", measure(10, 1, items, sizeof items, answer, sizeof answer) == ADJACENT_NEW_RECORDS && refused(5, 1));
-    set_up();
-    put_record(items, 2, 0, VERSION_MOST, 0);
-    expect("measure, sizes too long", measure(10, 1, items, sizeof items, answer, sizeof answer) == BAD_SIZES && refused(6, 2));
-    set_up();
-    expect("measure, short answer area", measure(0, 0, items, 1, answer, ANSWER_BYTES - 1) == AREA_TOO_SHORT && filled(answer, 0, sizeof answer));
+    for (size_t i = 0; i < sizeof measures / sizeof *measures; i++) {
+        size_t n = list_of(measures[i].list, list);
+        expect("measure", measures[i].what, answered(measured(measures[i].e, measures[i].f, list, n), measures[i].want) && untouched());
+    }
+    expect("measure", "1 before 3", refused(measured(0, 1, list, 11), 1, 0));
+    expect("measure", "1 byte", refused(measured(10, 1, list, 1), 3, 0));
+    expect("measure", "13 bytes", refused(measured(10, 1, list, 13), 3, 0));
+    fill_areas();
+    expect("measure", "an answer area of 31 bytes", not_made(measure(0, 0, list, 1, answer, ANSWER_BYTES - 1)));
 }
+
+/* ---- Check and rebuild, over the store of the letters A to T ---- */
+
+static const char letters[] = "ABCDEFGHIJKLMNOPQRST";
+
+/* N5 M5@15 N3, with the stored block "abcdefgh", is "abcdePQRSTfgh". */
+#define LIST "N5 M5@15 N3"
+#define BLOCK "abcdefgh"
+
+static uint32_t checked(size_t n, const char *block, size_t store_length, uint32_t k)
+{
+    fill_areas();
+    return check(list, n, (const uint8_t *)block, strlen(block), (const uint8_t *)letters, store_length, k, answer, sizeof answer);
+}
+
+static const struct {
+    const char *what, *list, *block;
+    size_t store;
+    uint32_t k, number, place;
+} checks[] = {
+    { "the first record", LIST, BLOCK, 20, 0, 0, 0 },
+    { "a match of 5 at 15 in a store of 20", LIST, BLOCK, 20, 1, 0, 0 },
+    { "the last record", LIST, BLOCK, 20, 2, 0, 0 },
+    { "a match of all the store", "M20@0", "", 20, 0, 0, 0 },
+    { "kind 2", "N5 X5@0", "abcde", 20, 0, 4, 1 },
+    { "new after new", "N5 N3", BLOCK, 20, 0, 5, 1 },
+    { "sizes of 16777217", "N5 M16777212@0", "abcde", 20, 0, 6, 1 },
+    { "sizes of 16777216, which pass check 6", "N5 M16777211@0", "abcde", 20, 0, 7, 1 },
+    { "a match of 5 at 15 in a store of 19", LIST, BLOCK, 19, 0, 7, 1 },
+    { "no store", LIST, BLOCK, 0, 0, 7, 1 },
+    { "address 20 in a store of 20", "M20@0 M1@20", "", 20, 0, 7, 1 },
+    { "address 4294967295", "M5@4294967295", "", 20, 0, 7, 0 },
+    { "a block one byte short", LIST, "abcdefg", 20, 0, 10, 0 },
+    { "a block one byte longer", LIST, "abcdefghi", 20, 0, 10, 0 },
+    { "k 3 of 3", LIST, BLOCK, 20, 3, 11, 0 },
+    { "k 4294967295", LIST, BLOCK, 20, 4294967295, 11, 0 },
+    { "no records", "", "", 20, 0, 11, 0 },
+    { "4 before 10", "N5 M5@15 N0", "abc", 20, 0, 4, 2 },
+    { "6 before 7", "N5 M16777216@4294967295", "abcde", 20, 0, 6, 1 },
+    { "7 at 0 before 5 at 2", "M5@16 N5 N3", BLOCK, 20, 0, 7, 0 },
+    { "7 before 10", "N5 M5@16 N3", "abcdefghi", 20, 0, 7, 1 },
+    { "10 before 11", "N5 M5@15", "abcd", 20, 2, 10, 0 },
+};
 
 static void test_check(void)
 {
-    set_up();
-    expect("check accepts", check(items, sizeof items, block, 10, store, 19, 2, answer, sizeof answer) == ACCEPTED && answered(0, 0, 0, 0, 0, 0, 0));
-    set_up();
-    expect("check, store of 18", check(items, sizeof items, block, 10, store, 18, 2, answer, sizeof answer) == OUTSIDE_STORE && refused(7, 1));
-    set_up();
-    expect("check, block of 9", check(items, sizeof items, block, 9, store, 19, 2, answer, sizeof answer) == BAD_BLOCK_LENGTH && refused(10, 0));
-    set_up();
-    expect("check, k 3 of 3", check(items, sizeof items, block, 10, store, 19, 3, answer, sizeof answer) == NO_SUCH_RECORD && refused(11, 0));
-    set_up();
-    expect("check, short answer area", check(items, 1, block, 0, store, 0, 9, answer, 0) == AREA_TOO_SHORT && filled(answer, 0, sizeof answer));
+    for (size_t i = 0; i < sizeof checks / sizeof *checks; i++) {
+        size_t n = list_of(checks[i].list, list);
+        expect("check", checks[i].what, refused(checked(n, checks[i].block, checks[i].store, checks[i].k), checks[i].number, checks[i].place));
+    }
+    list_of(LIST, list);
+    expect("check", "11 bytes", refused(checked(11, "abcde", 20, 0), 3, 0));
+    expect("check", "3 before 10", refused(checked(5, "a", 20, 0), 3, 0));
+    fill_areas();
+    expect("check", "no answer area", not_made(check(list, 1, list, 0, list, 0, 9, answer, 0)));
 }
+
+static uint32_t rebuilt(size_t n, const char *block, size_t room)
+{
+    fill_areas();
+    return rebuild(list, n, (const uint8_t *)block, strlen(block), (const uint8_t *)letters, 20, area, room, answer, sizeof answer);
+}
+
+static const struct {
+    const char *what, *list, *block;
+    size_t room;
+    const char *version;
+} rebuilds[] = {
+    { "in a longer area", LIST, BLOCK, AREA, "abcdePQRSTfgh" },
+    { "in an area one byte longer", LIST, BLOCK, 14, "abcdePQRSTfgh" },
+    { "in an area just long enough", LIST, BLOCK, 13, "abcdePQRSTfgh" },
+    { "matches alone", "M3@0 M3@3 M3@0", "", AREA, "ABCDEFABC" },
+    { "one new record", "N4", "abcd", AREA, "abcd" },
+    { "no records", "", "", AREA, "" },
+    { "no records in no area", "", "", 0, "" },
+};
+
+/* 9 is the last check. */
+static const struct {
+    const char *what, *list, *block;
+    size_t room;
+    uint32_t number, place;
+} not_rebuilt[] = {
+    { "new with an address", "N5 M5@15 N3@1", BLOCK, AREA, 4, 2 },
+    { "new after new", "N5 N3", BLOCK, AREA, 5, 1 },
+    { "sizes of 16777217", "N5 M16777212@0", "abcde", AREA, 6, 1 },
+    { "address 16 in a store of 20", "N5 M5@16 N3", BLOCK, AREA, 7, 1 },
+    { "a block one byte short", LIST, "abcdefg", AREA, 10, 0 },
+    { "a block one byte longer", LIST, "abcdefghi", AREA, 10, 0 },
+    { "an area one byte short", LIST, BLOCK, 12, 9, 0 },
+    { "no area", LIST, BLOCK, 0, 9, 0 },
+    { "7 before 9", "N5 M5@16 N3", BLOCK, 12, 7, 1 },
+    { "7 before 10", "N5 M5@16 N3", "abcdefg", AREA, 7, 1 },
+    { "10 before 9", LIST, "abcdefghi", 12, 10, 0 },
+};
 
 static void test_rebuild(void)
 {
-    set_up();
-    expect("rebuild accepts", rebuild(items, sizeof items, block, 10, store, 19, area, AREA, answer, sizeof answer) == ACCEPTED
-        && answered(0, 0, 0, 0, 0, 0, 29) && memcmp(area, version, 29) == 0 && filled(area, 29, AREA));
-    set_up();
-    expect("rebuild, area of 28", rebuild(items, sizeof items, block, 10, store, 19, area, 28, answer, sizeof answer) == AREA_TOO_SHORT && refused(9, 0));
-    set_up();
-    expect("rebuild, short answer area", rebuild(items, sizeof items, block, 10, store, 19, area, AREA, answer, 31) == AREA_TOO_SHORT
-        && filled(answer, 0, sizeof answer) && filled(area, 0, AREA));
+    for (size_t i = 0; i < sizeof rebuilds / sizeof *rebuilds; i++) {
+        size_t n = list_of(rebuilds[i].list, list), whole = strlen(rebuilds[i].version);
+        expect("rebuild", rebuilds[i].what, answered(rebuilt(n, rebuilds[i].block, rebuilds[i].room), (struct values){ .whole = (uint32_t)whole })
+            && holds(area, rebuilds[i].version, whole));
+    }
+    for (size_t i = 0; i < sizeof not_rebuilt / sizeof *not_rebuilt; i++) {
+        size_t n = list_of(not_rebuilt[i].list, list);
+        expect("rebuild", not_rebuilt[i].what, refused(rebuilt(n, not_rebuilt[i].block, not_rebuilt[i].room), not_rebuilt[i].number, not_rebuilt[i].place));
+    }
+    list_of(LIST, list);
+    expect("rebuild", "5 bytes", refused(rebuilt(5, "abcde", AREA), 3, 0));
+    fill_areas();
+    expect("rebuild", "an answer area of 31 bytes", not_made(rebuild(list, 36, (const uint8_t *)BLOCK, 8, (const uint8_t *)letters, 20, area, AREA,
+        answer, ANSWER_BYTES - 1)));
 }
 
-/* ---- Partition and pass ---- */
+/* ---- Partition and pass: accepted ---- */
 
-static uint32_t divide(uint32_t (*call)(uint32_t, uint32_t, const uint8_t *, size_t, const uint8_t *, size_t, const uint8_t *, size_t,
-                                        uint8_t *, size_t, uint8_t *, size_t, uint8_t *, size_t, uint8_t *, size_t),
-                       uint32_t e, uint32_t f, size_t list_length, size_t version_length, size_t store_length, size_t choice_length)
+typedef uint32_t call(uint32_t e, uint32_t f, const uint8_t *list, size_t list_len, const uint8_t *version, size_t version_len,
+                      const uint8_t *store, size_t store_len, uint8_t *choice, size_t choice_len, uint8_t *list_area, size_t list_area_len,
+                      uint8_t *block_area, size_t block_area_len, uint8_t *answer, size_t answer_len);
+
+/* The letters A to Z and a to n. In the sheets new bytes are digits, and no match goes on in the store where the one before it ended. */
+#define STORE "ABCDEFGHIJKLMNOPQRSTUVWXYZabcdefghijklmn"
+#define SHEET_C "N5 M19@0 N5"
+#define VERSION_C "01234ABCDEFGHIJKLMNOPQRS56789"
+
+/* The price, and how many bytes of the areas for choice, list and stored block are lent. */
+struct terms {
+    uint32_t e, f;
+    size_t choice, list, block;
+};
+#define AT(e, f) { e, f, AREA, AREA, AREA }
+#define IN(choice, list, block) { 10, 1, choice, list, block }
+
+static uint32_t called(call *made, struct terms t, size_t n, const char *version, const char *store)
 {
-    return call(e, f, items, list_length, version, version_length, store, store_length, choice, choice_length, list_area, AREA,
-                block_area, AREA, answer, sizeof answer);
+    fill_areas();
+    return made(t.e, t.f, list, n, (const uint8_t *)version, strlen(version), (const uint8_t *)store, strlen(store), choice, t.choice, list_area,
+                t.list, block_area, t.block, answer, sizeof answer);
 }
 
-static void test_partition(void)
+struct accepted {
+    const char *what;
+    struct terms terms;
+    const char *list, *version, *bits, *written, *stored;
+    struct values want;
+};
+
+static int gives(call *made, const struct accepted *a)
 {
-    uint8_t fused[RECORD_BYTES];
-    put_record(fused, 0, 0, 29, 0);
-    set_up();
-    expect("partition accepts", divide(partition, 10, 1, sizeof items, 29, 19, AREA) == ACCEPTED && answered(0, 0, 39, 1, 29, 0, 0)
-        && memcmp(choice, "\1\1\1", 3) == 0 && filled(choice, 3, AREA) && memcmp(list_area, fused, RECORD_BYTES) == 0
-        && filled(list_area, RECORD_BYTES, AREA) && memcmp(block_area, version, 29) == 0 && filled(block_area, 29, AREA));
-    set_up();
-    expect("partition of no records", divide(partition, 10, 1, 0, 0, 0, 0) == ACCEPTED && answered(0, 0, 0, 0, 0, 0, 0) && filled(choice, 0, AREA)
-        && filled(list_area, 0, AREA) && filled(block_area, 0, AREA));
-    set_up();
-    expect("partition, the greatest price", divide(partition, 255, 65535, sizeof items, 29, 19, AREA) == ACCEPTED && answered(0, 0, 16711454, 1, 29, 0, 0));
-    set_up();
-    expect("partition, F 0", divide(partition, 10, 0, sizeof items, 29, 19, AREA) == BAD_PRICE && refused(1, 0));
-    set_up();
-    expect("partition, choice area of 2", divide(partition, 10, 1, sizeof items, 29, 19, 2) == AREA_TOO_SHORT && refused(9, 0));
-    set_up();
-    expect("partition, sizes end short", divide(partition, 10, 1, 2 * RECORD_BYTES, 29, 19, AREA) == BAD_SIZES && refused(6, 3 - 1));
-    set_up();
-    expect("partition, sizes too long", divide(partition, 10, 1, sizeof items, 28, 19, AREA) == BAD_SIZES && refused(6, 2));
-    set_up();
-    store[18] = 'B';
-    expect("partition, bytes differ", divide(partition, 10, 1, sizeof items, 29, 19, AREA) == MISMATCH && refused(8, 1));
+    uint8_t bits[AREA], written[AREA];
+    size_t n = list_of(a->list, list), m = list_of(a->written, written), k = strlen(a->bits);
+    for (size_t i = 0; i < k; i++)
+        bits[i] = (uint8_t)(a->bits[i] - '0');
+    return answered(called(made, a->terms, n, a->version, STORE), a->want) && holds(choice, bits, k) && holds(list_area, written, m)
+        && holds(block_area, a->stored, strlen(a->stored)) && holds(area, "", 0);
 }
 
-static void test_pass(void)
+/* The sheets, at P = 10, where partition and pass take the same choice; the looks are the pass's. */
+static const struct accepted sheets[] = {
+    { "sheet A", AT(10, 1), "", "", "", "", "", { 0 } },
+    { "sheet B", AT(10, 1), "M1@0", "A", "0", "M1@0", "", { .cost = 10, .entries = 1, .looks = 1 } },
+    { "sheet C", AT(10, 1), SHEET_C, VERSION_C, "111", "N29", VERSION_C, { .cost = 39, .entries = 1, .stored = 29, .looks = 2 } },
+    { "sheet D", AT(10, 1), "N5 M20@0 N5", "01234ABCDEFGHIJKLMNOPQRST56789", "101", "N5 M20@0 N5", "0123456789",
+      { .cost = 40, .entries = 3, .stored = 10, .looks = 3 } },
+    { "sheet E", AT(10, 1), "N5 M19@20 M19@0 N5", "01234UVWXYZabcdefghijklmABCDEFGHIJKLMNOPQRS56789", "1001", "N5 M19@20 M19@0 N5", "0123456789",
+      { .cost = 50, .entries = 4, .stored = 10, .looks = 4 } },
+    { "sheet F", AT(10, 1), "N1 M9@0", "0ABCDEFGHI", "11", "N10", "0ABCDEFGHI", { .cost = 20, .entries = 1, .stored = 10, .looks = 2 } },
+    { "sheet G", AT(10, 1), "N1 M10@0", "0ABCDEFGHIJ", "10", "N1 M10@0", "0", { .cost = 21, .entries = 2, .stored = 1, .looks = 2 } },
+    { "sheet H", AT(10, 1), "M4@8 M4@4 M4@0", "IJKLEFGHABCD", "111", "N12", "IJKLEFGHABCD", { .cost = 22, .entries = 1, .stored = 12, .looks = 4 } },
+    { "sheet J", AT(10, 1), "M10@8 M4@4 M4@0", "IJKLMNOPQREFGHABCD", "011", "M10@8 N8", "EFGHABCD",
+      { .cost = 28, .entries = 2, .stored = 8, .looks = 4 } },
+    { "sheet C at E 2, F 5", AT(2, 5), SHEET_C, VERSION_C, "111", "N29", VERSION_C, { .cost = 39, .entries = 1, .stored = 29, .looks = 2 } },
+    { "sheet C at the greatest price", AT(255, 65535), SHEET_C, VERSION_C, "111", "N29", VERSION_C,
+      { .cost = 16711454, .entries = 1, .stored = 29, .looks = 2 } },
+    { "sheet C in areas just long enough", IN(3, 36, 29), SHEET_C, VERSION_C, "111", "N29", VERSION_C,
+      { .cost = 39, .entries = 1, .stored = 29, .looks = 2 } },
+    { "sheet D in areas longer than it writes", IN(3, 36, 30), "N5 M20@0 N5", "01234ABCDEFGHIJKLMNOPQRST56789", "101", "N5 M20@0 N5", "0123456789",
+      { .cost = 40, .entries = 3, .stored = 10, .looks = 3 } },
+    { "sheet A in no areas", IN(0, 0, 0), "", "", "", "", "", { 0 } },
+    { "matches that go on in the store", AT(10, 1), "M10@0 M10@10", "ABCDEFGHIJKLMNOPQRST", "00", "M10@0 M10@10", "",
+      { .cost = 20, .entries = 2, .looks = 2 } },
+    { "a match to the end of the store", AT(10, 1), "M5@35", "jklmn", "0", "M5@35", "", { .cost = 10, .entries = 1, .looks = 1 } },
+    /* At P = 8 the first match joins; the last would add as much as its entry costs, and stays. */
+    { "a tie", AT(8, 1), "M4@8 N8 M8@0", "IJKL01234567ABCDEFGH", "110", "N12 M8@0", "IJKL01234567", { .cost = 28, .entries = 2, .stored = 12, .looks = 4 } },
+};
+
+/* Sheet I, which three matches stored as one would make cheaper: the pass merges only pairs, and keeps all. */
+static const struct accepted sheet_i = { "sheet I", AT(10, 1), "M6@12 M6@6 M6@0", "MNOPQRGHIJKLABCDEF", "111", "N18", "MNOPQRGHIJKLABCDEF",
+    { .cost = 28, .entries = 1, .stored = 18 } };
+static const struct accepted sheet_i_passed = { "sheet I", AT(10, 1), "M6@12 M6@6 M6@0", "MNOPQRGHIJKLABCDEF", "000", "M6@12 M6@6 M6@0", "",
+    { .cost = 30, .entries = 3, .looks = 3 } };
+
+static void test_accepted(void)
 {
-    set_up();
-    expect("pass accepts", divide(pass, 10, 1, sizeof items, 29, 19, AREA) == ACCEPTED && answered(0, 0, 39, 1, 29, 2, 0)
-        && memcmp(choice, "\1\1\1", 3) == 0 && filled(choice, 3, AREA) && filled(list_area, RECORD_BYTES, AREA)
-        && memcmp(block_area, version, 29) == 0 && filled(block_area, 29, AREA));
-    set_up();
-    expect("pass of no records", divide(pass, 10, 1, 0, 0, 0, 0) == ACCEPTED && answered(0, 0, 0, 0, 0, 0, 0));
-    set_up();
-    expect("pass, bytes differ", (store[0] = 'B', divide(pass, 10, 1, sizeof items, 29, 19, AREA)) == MISMATCH && refused(8, 1));
+    for (size_t i = 0; i < sizeof sheets / sizeof *sheets; i++) {
+        struct accepted a = sheets[i];
+        expect("pass", a.what, gives(pass, &a));
+        a.want.looks = 0;
+        expect("partition", a.what, gives(partition, &a));
+    }
+    expect("partition", sheet_i.what, gives(partition, &sheet_i));
+    expect("pass", sheet_i_passed.what, gives(pass, &sheet_i_passed));
+}
+
+/* ---- Partition and pass: refused, both with the same number and place ---- */
+
+static const struct {
+    const char *what;
+    struct terms terms;
+    const char *list, *version, *store;
+    uint32_t number, place;
+} refusals[] = {
+    { "E 0", AT(0, 1), SHEET_C, VERSION_C, STORE, 1, 0 },
+    { "E 256", AT(256, 1), SHEET_C, VERSION_C, STORE, 1, 0 },
+    { "F 0", AT(10, 0), SHEET_C, VERSION_C, STORE, 1, 0 },
+    { "F 65536", AT(10, 65536), SHEET_C, VERSION_C, STORE, 1, 0 },
+    { "a choice area one byte short", IN(2, AREA, AREA), SHEET_C, VERSION_C, STORE, 9, 0 },
+    { "a list area one byte short", IN(AREA, 35, AREA), SHEET_C, VERSION_C, STORE, 9, 0 },
+    { "a block area one byte short", IN(AREA, AREA, 28), SHEET_C, VERSION_C, STORE, 9, 0 },
+    { "kind 2", AT(10, 1), "X5 M19@0 N5", VERSION_C, STORE, 4, 0 },
+    { "byte 2", AT(10, 1), "N5 M19@0!2 N5", VERSION_C, STORE, 4, 1 },
+    { "size 0", AT(10, 1), "N5 M19@0 M0@0", VERSION_C, STORE, 4, 2 },
+    { "a new record with an address", AT(10, 1), "N5 M19@0 N5@1", VERSION_C, STORE, 4, 2 },
+    { "new after new", AT(10, 1), "N5 N19 N5", VERSION_C, STORE, 5, 1 },
+    { "one byte too many", AT(10, 1), "N5 M19@0 N6", VERSION_C, STORE, 6, 2 },
+    { "one record too many", AT(10, 1), "N5 M19@0 N5 M1@0", VERSION_C, STORE, 6, 3 },
+    { "sizes that pass 2^32", AT(10, 1), "N5 M4294967295@0 N5", VERSION_C, STORE, 6, 1 },
+    { "one byte too few", AT(10, 1), "N5 M19@0 N4", VERSION_C, STORE, 6, 3 },
+    { "no records for a version", AT(10, 1), "", VERSION_C, STORE, 6, 0 },
+    { "a record for no version", AT(10, 1), "N1", "", STORE, 6, 0 },
+    { "a match of 19 in a store of 18", AT(10, 1), SHEET_C, VERSION_C, "ABCDEFGHIJKLMNOPQR", 7, 1 },
+    { "a match of 5 at 15 in a store of 19", AT(10, 1), "M5@15", "PQRST", "ABCDEFGHIJKLMNOPQRS", 7, 0 },
+    { "no store", AT(10, 1), SHEET_C, VERSION_C, "", 7, 1 },
+    { "address 4294967295", AT(10, 1), "N5 M19@4294967295 N5", VERSION_C, STORE, 7, 1 },
+    { "a match whose first byte differs", AT(10, 1), SHEET_C, VERSION_C, "-BCDEFGHIJKLMNOPQRS", 8, 1 },
+    { "a match whose last byte differs", AT(10, 1), SHEET_C, VERSION_C, "ABCDEFGHIJKLMNOPQR-", 8, 1 },
+    { "a second match that differs", AT(10, 1), "N5 M9@0 M10@10 N5", VERSION_C, STORE, 8, 2 },
+    { "1 before 9", { 0, 1, 2, AREA, AREA }, SHEET_C, VERSION_C, STORE, 1, 0 },
+    { "9 before 4", IN(2, AREA, AREA), "X5 M19@0 N5", VERSION_C, STORE, 9, 0 },
+    { "9 before the short end", IN(2, AREA, AREA), "N5 M1@0 N1", VERSION_C, STORE, 9, 0 },
+    { "4 before 5", AT(10, 1), "N5 N0 N5", VERSION_C, STORE, 4, 1 },
+    { "5 before 6", AT(10, 1), "N5 N99 N5", VERSION_C, STORE, 5, 1 },
+    { "6 before 7", AT(10, 1), "N5 M99@0 N5", VERSION_C, STORE, 6, 1 },
+    { "7 at 1 before 4 at 2", AT(10, 1), "N5 M19@22 N0", VERSION_C, STORE, 7, 1 },
+    { "8 at 1 before 4 at 2", AT(10, 1), "N5 M19@1 N0", VERSION_C, STORE, 8, 1 },
+    { "8 before the short end", AT(10, 1), "N5 M19@1 N1", VERSION_C, STORE, 8, 1 },
+};
+
+static void test_refused(call *made, const char *name)
+{
+    for (size_t i = 0; i < sizeof refusals / sizeof *refusals; i++) {
+        size_t n = list_of(refusals[i].list, list);
+        expect(name, refusals[i].what, refused(called(made, refusals[i].terms, n, refusals[i].version, refusals[i].store), refusals[i].number,
+            refusals[i].place));
+    }
+    struct terms usual = AT(10, 1), no_factor = AT(10, 0), short_choice = IN(0, AREA, AREA);
+    list_of(SHEET_C, list);
+    expect(name, "11 bytes", refused(called(made, usual, 11, "", STORE), 3, 0));
+    expect(name, "1 before 3", refused(called(made, no_factor, 11, "", STORE), 1, 0));
+    expect(name, "3 before 9", refused(called(made, short_choice, 35, VERSION_C, STORE), 3, 0));
+    fill_areas();
+    expect(name, "an answer area of 31 bytes", not_made(made(10, 1, list, 36, (const uint8_t *)VERSION_C, 29, (const uint8_t *)STORE, 40, choice, AREA,
+        list_area, AREA, block_area, AREA, answer, ANSWER_BYTES - 1)));
 }
 
 /* ---- The greatest sizes ---- */
 
-static void test_greatest(void)
+static void *memory(size_t bytes)
 {
-    size_t list_length = (size_t)RECORDS_MOST * RECORD_BYTES;
-    uint8_t *list = calloc(1, list_length + RECORD_BYTES), *out = malloc(list_length);
-    uint8_t *bytes = calloc(1, VERSION_MOST + 1), *rest = malloc(VERSION_MOST), *bits = malloc(RECORDS_MOST);
-    uint8_t *huge = calloc(1, (size_t)STORE_MOST + 1);
-    if (!list || !out || !bytes || !rest || !bits || !huge) {
+    void *p = calloc(1, bytes);
+    if (!p) {
         printf("calls: no memory for the greatest sizes\n");
         exit(1);
     }
+    return p;
+}
+
+/* 4,096 matches that cover 16,777,216 bytes of 0, and lists of so many zero bytes: 49,152 pass check 3, 49,164 and 49,151 do not. */
+static void test_greatest_lists(void)
+{
+    size_t length = (size_t)RECORDS_MOST * RECORD_BYTES;
+    uint8_t *most = memory(length + RECORD_BYTES), *out = memory(length), *bits = memory(RECORDS_MOST), *zeros = memory(length + RECORD_BYTES);
+    uint8_t *bytes = memory((size_t)VERSION_MOST + 1), *stored = memory(VERSION_MOST);
+    expect("measure", "49,152 zero bytes, which pass check 3", refused(measured(10, 1, zeros, length), 4, 0));
+    expect("measure", "49,164 bytes", refused(measured(10, 1, zeros, length + RECORD_BYTES), 3, 0));
+    expect("measure", "49,151 bytes", refused(measured(10, 1, zeros, length - 1), 3, 0));
     for (size_t i = 0; i < RECORDS_MOST; i++)
-        put_record(list, i, 1, VERSION_MOST / RECORDS_MOST, (uint32_t)(3 * i));
-    set_up();
-    expect("partition, 4,096 records and 16,777,216 bytes", partition(1, 1, list, list_length, bytes, VERSION_MOST, bytes, VERSION_MOST, bits,
-        RECORDS_MOST, out, list_length, rest, VERSION_MOST, answer, sizeof answer) == ACCEPTED && answered(0, 0, 4096, 4096, 0, 0, 0)
-        && memcmp(out, list, list_length) == 0);
-    set_up();
-    expect("partition at the greatest price stores all", partition(255, 65535, list, list_length, bytes, VERSION_MOST, bytes, VERSION_MOST, bits,
-        RECORDS_MOST, out, list_length, rest, VERSION_MOST, answer, sizeof answer) == ACCEPTED
-        && answered(0, 0, 16711425 + UINT64_C(16777216), 1, VERSION_MOST, 0, 0) && memcmp(rest, bytes, VERSION_MOST) == 0);
-    set_up();
-    expect("pass, 4,096 records", pass(1, 1, list, list_length, bytes, VERSION_MOST, bytes, VERSION_MOST, bits, RECORDS_MOST, out,
-        list_length, rest, VERSION_MOST, answer, sizeof answer) == ACCEPTED && answered(0, 0, 4096, 4096, 0, 4096, 0));
-    set_up();
-    expect("measure, 4,097 records", measure(1, 1, list, list_length + RECORD_BYTES, answer, sizeof answer) == BAD_LIST_LENGTH && refused(3, 0));
-    set_up();
-    expect("partition, a version of 16,777,217 bytes", partition(1, 1, list, list_length, bytes, VERSION_MOST + 1, bytes, VERSION_MOST, bits,
-        RECORDS_MOST, out, list_length, rest, VERSION_MOST, answer, sizeof answer) == TOO_LONG && refused(2, 0));
-    set_up();
-    expect("check, a store of 268,435,456 bytes", check(items, sizeof items, block, 10, huge, STORE_MOST, 0, answer, sizeof answer) == ACCEPTED);
-    set_up();
-    expect("check, a store of 268,435,457 bytes", check(items, sizeof items, block, 10, huge, (size_t)STORE_MOST + 1, 0, answer, sizeof answer) == TOO_LONG
-        && refused(2, 0));
-    free(list), free(out), free(bytes), free(rest), free(bits), free(huge);
+        put_record(most, i, KIND_MATCH, VERSION_MOST / RECORDS_MOST, (uint32_t)(3 * i));
+    expect("measure", "4,096 records", answered(measured(10, 1, most, length), (struct values){ .cost = 40960, .entries = 4096, .whole = VERSION_MOST }));
+    fill_areas();
+    expect("partition", "4,096 records and 16,777,216 bytes", answered(partition(1, 1, most, length, bytes, VERSION_MOST, bytes, VERSION_MOST, bits,
+        RECORDS_MOST, out, length, stored, VERSION_MOST, answer, sizeof answer), (struct values){ .cost = 4096, .entries = 4096 })
+        && memcmp(out, most, length) == 0);
+    fill_areas();
+    expect("partition", "at the greatest price all is stored", answered(partition(E_MOST, F_MOST, most, length, bytes, VERSION_MOST, bytes, VERSION_MOST,
+        bits, RECORDS_MOST, out, length, stored, VERSION_MOST, answer, sizeof answer),
+        (struct values){ .cost = 16711425 + UINT64_C(16777216), .entries = 1, .stored = VERSION_MOST }) && memcmp(stored, bytes, VERSION_MOST) == 0);
+    fill_areas();
+    expect("pass", "4,096 records", answered(pass(1, 1, most, length, bytes, VERSION_MOST, bytes, VERSION_MOST, bits, RECORDS_MOST, out, length,
+        stored, VERSION_MOST, answer, sizeof answer), (struct values){ .cost = 4096, .entries = 4096, .looks = 4096 }));
+    fill_areas();
+    expect("partition", "a version of 16,777,217 bytes", refused(partition(1, 1, most, length, bytes, VERSION_MOST + 1, bytes, VERSION_MOST, bits,
+        RECORDS_MOST, out, length, stored, VERSION_MOST, answer, sizeof answer), 2, 0));
+    free(most), free(out), free(bits), free(zeros), free(bytes), free(stored);
+}
+
+static void test_greatest_store(void)
+{
+    uint8_t *huge = memory((size_t)STORE_MOST + 1), block[10] = { 0 };
+    list_of(SHEET_C, list);
+    fill_areas();
+    expect("check", "a store of 268,435,456 bytes", refused(check(list, 36, block, 10, huge, STORE_MOST, 0, answer, sizeof answer), 0, 0));
+    fill_areas();
+    expect("check", "a store of 268,435,457 bytes", refused(check(list, 36, block, 10, huge, (size_t)STORE_MOST + 1, 0, answer, sizeof answer), 2, 0));
+    fill_areas();
+    expect("pass", "a store of 268,435,457 bytes", refused(pass(10, 1, list, 36, (const uint8_t *)VERSION_C, 29, huge, (size_t)STORE_MOST + 1, choice,
+        AREA, list_area, AREA, block_area, AREA, answer, sizeof answer), 2, 0));
+    free(huge);
 }
 
 int main(void)
@@ -247,9 +521,11 @@ int main(void)
     test_measure();
     test_check();
     test_rebuild();
-    test_partition();
-    test_pass();
-    test_greatest();
+    test_accepted();
+    test_refused(partition, "partition");
+    test_refused(pass, "pass");
+    test_greatest_lists();
+    test_greatest_store();
     printf("calls: %d cases of %d, %d wrong\n", cases, CASES, wrong);
     return cases != CASES || wrong != 0;
 }

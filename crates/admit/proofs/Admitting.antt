@@ -23,36 +23,45 @@ use Rattle.format.proofs.Rows.{Counted, counted-of-fits}
 use Rattle.format.proofs.Encoding.{length-encode, records-encode, fits-encode}
 use Rattle.format.proofs.Rebuilding.{whole-agrees}
 use Rattle.walk.specs.declared.Scope.the-variants as scope
+use Rattle.walk.specs.declared.Totals.{Totals}
+use Rattle.walk.specs.declared.Walked.the-variants.{Through}
 use Rattle.walk.specs.Checks.{checks, walkRuling, front}
+use Rattle.walk.specs.Walked.{walked}
+use Rattle.walk.proofs.Telling.{fine-of-through}
 use Rattle.walk.proofs.Accepted.{each-of-fine, sized-of-four, apart-of-five, agrees-of-eight}
-use Rattle.walk.proofs.Written.{walk-encode}
+use Rattle.walk.proofs.Encoded.{walk-encode}
 use Rattle.area.specs.Area.{Areas}
 use Rattle.price.specs.declared.Price.{Price}
-use Rattle.price.specs.Price.{priceFits}
-use Rattle.admit.specs.Admit.{lengthsFit, areasFit, admitRuling, callRuling, partitionRuling, findings, LongEnough}
+use Rattle.price.specs.Price.{priceFits, ratesOf, RatesFit}
+use Rattle.price.proofs.Bounds.{rates-fit}
+use Rattle.admit.specs.Admit.{lengthsFit, areasFit, admitRuling, partitionRuling, findings, LongEnough}
 
-module _ (list v st : List ℕ) (c a b : ℕ) where
-  pub admit-lengths : lengthsFit v st ≡ false → admitRuling list v st c a b ≡ Stop (refuse fault.TooLong 0)
-  admit-lengths k = rw k
+module _ (price : Price) (list v st : List ℕ) (c a b : ℕ) where
+  pub admit-price : priceFits price ≡ false → admitRuling price list v st c a b ≡ Stop (refuse fault.Price 0)
+  admit-price j = rw j
 
-  module _ (k : lengthsFit v st ≡ true) where
-    pub admit-list : listFits list ≡ false → admitRuling list v st c a b ≡ Stop (refuse fault.ListLength 0)
-    admit-list l = rw (k, l)
+  module _ (j : priceFits price ≡ true) where
+    pub admit-lengths : lengthsFit v st ≡ false → admitRuling price list v st c a b ≡ Stop (refuse fault.TooLong 0)
+    admit-lengths k = rw (j, k)
 
-    module _ (l : listFits list ≡ true) where
-      pub admit-areas : areasFit list v c a b ≡ false → admitRuling list v st c a b ≡ Stop (refuse fault.AreaTooShort 0)
-      admit-areas m = rw (k, l, m)
+    module _ (k : lengthsFit v st ≡ true) where
+      pub admit-list : listFits list ≡ false → admitRuling price list v st c a b ≡ Stop (refuse fault.ListLength 0)
+      admit-list l = rw (j, k, l)
 
-      module _ (m : areasFit list v c a b ≡ true) where
-        pub admit-walk : (x : Refusal) → walkRuling (checks scope.Version v st) list ≡ Stop x → admitRuling list v st c a b ≡ Stop x
-        admit-walk x w = rw (k, l, m, w)
+      module _ (l : listFits list ≡ true) where
+        pub admit-areas : areasFit list v c a b ≡ false → admitRuling price list v st c a b ≡ Stop (refuse fault.AreaTooShort 0)
+        admit-areas m = rw (j, k, l, m)
 
-        module _ (w : walkRuling (checks scope.Version v st) list ≡ Fine) where
-          pub admit-short : (whole (recordsOf list) ≡ length v → ⊥) → admitRuling list v st c a b ≡ Stop (refuse fault.Sizes (length (recordsOf list)))
-          admit-short n = rw (k, l, m, w, ne-eqb (whole (recordsOf list)) (length v) n)
+        module _ (m : areasFit list v c a b ≡ true) where
+          pub admit-walk : (x : Refusal) → walkRuling (checks scope.Version v st) list ≡ Stop x → admitRuling price list v st c a b ≡ Stop x
+          admit-walk x w = rw (j, k, l, m, w)
 
-          pub admit-fine : whole (recordsOf list) ≡ length v → admitRuling list v st c a b ≡ Fine
-          admit-fine n = rw (k, l, m, w, eq-eqb (whole (recordsOf list)) (length v) n)
+          module _ (w : walkRuling (checks scope.Version v st) list ≡ Fine) where
+            pub admit-short : (whole (recordsOf list) ≡ length v → ⊥) → admitRuling price list v st c a b ≡ Stop (refuse fault.Sizes (length (recordsOf list)))
+            admit-short n = rw (j, k, l, m, w, ne-eqb (whole (recordsOf list)) (length v) n)
+
+            pub admit-fine : whole (recordsOf list) ≡ length v → admitRuling price list v st c a b ≡ Fine
+            admit-fine n = rw (j, k, l, m, w, eq-eqb (whole (recordsOf list)) (length v) n)
 
 pub lengths-most : (v st : List ℕ) → lengthsFit v st ≡ true → (length v ≤ versionMost) × (length st ≤ storeMost)
 lengths-most v st h = let k = both-of-and (leb (length v) versionMost) (leb (length st) storeMost) h in (leb-true (length v) versionMost (k .0), leb-true (length st) storeMost (k .1))
@@ -69,7 +78,9 @@ areas-of-most list v c a b i j k =
     (and-of-both (leb (length list / 12) c) (leb (length list) a) (le-leb (length list / 12) c i) (le-leb (length list) a j)) (le-leb (length v) b k)
 
 -- what admitted inputs have
-pub record Sound (list v st : List ℕ) (c a b : ℕ) : Type 0 where
+pub record Sound (price : Price) (list v st : List ℕ) (c a b : ℕ) : Type 0 where
+  pub price-fits : priceFits price ≡ true
+  pub rates-fit : RatesFit (ratesOf price)
   pub lengths-fit : lengthsFit v st ≡ true
   pub version-most : length v ≤ versionMost
   pub store-most : length st ≤ storeMost
@@ -81,24 +92,28 @@ pub record Sound (list v st : List ℕ) (c a b : ℕ) : Type 0 where
   pub well-formed : WellFormed st (recordsOf list) v
 
 -- each check of admitted inputs, in their order
-record Passed (list v st : List ℕ) (c a b : ℕ) : Type 0 where
+record Passed (price : Price) (list v st : List ℕ) (c a b : ℕ) : Type 0 where
+  prices : priceFits price ≡ true
   lengths : lengthsFit v st ≡ true
   counts : listFits list ≡ true
   areas : areasFit list v c a b ≡ true
   walked : walkRuling (checks scope.Version v st) list ≡ Fine
   ends : whole (recordsOf list) ≡ length v
 
-passed-of-fine : (list v st : List ℕ) (c a b : ℕ) → admitRuling list v st c a b ≡ Fine → Passed list v st c a b
-passed-of-fine list v st c a b h =
+passed-of-fine : (price : Price) (list v st : List ℕ) (c a b : ℕ) → admitRuling price list v st c a b ≡ Fine → Passed price list v st c a b
+passed-of-fine price list v st c a b h =
     let last : Ruling = need (eqb (whole (recordsOf list)) (length v)) fault.Sizes (length (recordsOf list)) in
     let walk : Ruling = walkRuling (checks scope.Version v st) list in
     let nine : Ruling = need (areasFit list v c a b) fault.AreaTooShort 0 in
     let three : Ruling = need (listFits list) fault.ListLength 0 in
-    let h₂ = fine-of-then (need (lengthsFit v st) fault.TooLong 0) (three then nine then walk then last) h in
+    let two : Ruling = need (lengthsFit v st) fault.TooLong 0 in
+    let h₁ = fine-of-then (need (priceFits price) fault.Price 0) (two then three then nine then walk then last) h in
+    let h₂ = fine-of-then two (three then nine then walk then last) (h₁ .1) in
     let h₃ = fine-of-then three (nine then walk then last) (h₂ .1) in
     let h₄ = fine-of-then nine (walk then last) (h₃ .1) in
     let h₅ = fine-of-then walk last (h₄ .1) in
     record {
+      prices = true-of-need (priceFits price) fault.Price 0 (h₁ .0);
       lengths = true-of-need (lengthsFit v st) fault.TooLong 0 (h₂ .0);
       counts = true-of-need (listFits list) fault.ListLength 0 (h₃ .0);
       areas = true-of-need (areasFit list v c a b) fault.AreaTooShort 0 (h₄ .0);
@@ -106,13 +121,15 @@ passed-of-fine list v st c a b h =
       ends = eqb-true (whole (recordsOf list)) (length v) (true-of-need (eqb (whole (recordsOf list)) (length v)) fault.Sizes (length (recordsOf list)) (h₅ .1));
     }
 
-pub sound-of-fine : (list v st : List ℕ) (c a b : ℕ) → admitRuling list v st c a b ≡ Fine → Sound list v st c a b
-sound-of-fine list v st c a b h =
-    let p = passed-of-fine list v st c a b h in
+pub sound-of-fine : (price : Price) (list v st : List ℕ) (c a b : ℕ) → admitRuling price list v st c a b ≡ Fine → Sound price list v st c a b
+sound-of-fine price list v st c a b h =
+    let p = passed-of-fine price list v st c a b h in
     let l = lengths-most v st (p .lengths) in
     let m = areas-most list v c a b (p .areas) in
     let each = each-of-fine (checks scope.Version v st) front (rowsOf list) (p .walked) in
     record {
+      price-fits = p .prices;
+      rates-fit = rates-fit price (p .prices);
       lengths-fit = p .lengths;
       version-most = l .0;
       store-most = l .1;
@@ -128,18 +145,22 @@ sound-of-fine list v st c a b h =
       };
     }
 
--- the price fits, and the inputs are admitted
-pub admitted-of-fine : (price : Price) (list v st : List ℕ) (c a b : ℕ) → callRuling price list v st c a b ≡ Fine → (priceFits price ≡ true) × (admitRuling list v st c a b ≡ Fine)
-admitted-of-fine price list v st c a b h =
-    let k = fine-of-then (need (priceFits price) fault.Price 0) (admitRuling list v st c a b) h in
-    (true-of-need (priceFits price) fault.Price 0 (k .0), k .1)
+-- all checks are passed
+pub record Admitted (price : Price) (list v st : List ℕ) (c a b : ℕ) : Type 0 where
+  pub fine : admitRuling price list v st c a b ≡ Fine
+  pub sound : Sound price list v st c a b
+
+pub admitted-of-through : (price : Price) (list v st : List ℕ) (c a b : ℕ) (t : Totals) → walked (admitRuling price list v st c a b) (recordsOf list) ≡ Through t → Admitted price list v st c a b
+admitted-of-through price list v st c a b t h =
+    let fine = fine-of-through (admitRuling price list v st c a b) (recordsOf list) t h .0 in
+    record { fine = fine; sound = sound-of-fine price list v st c a b fine }
 
 -- in areas that are long enough, their lengths do not matter
 pub findings-of-long : (price : Price) (list v st : List ℕ) (x : Areas) → LongEnough list v x → partitionRuling price list v st x ≡ findings price list v st
 findings-of-long price list v st x h = rw (h, areas-of-most list v (length list / 12) (length list) (length v) (omega arith) (omega arith) (omega arith))
 
 -- a written list that is well formed is admitted where price, lengths and areas are
-pub fine-of-written : (l : List Record) (v st : List ℕ) (c a b : ℕ) → lengthsFit v st ≡ true → length l ≤ 4096
-    → areasFit (encode l) v c a b ≡ true → WellFormed st l v → admitRuling (encode l) v st c a b ≡ Fine
-fine-of-written l v st c a b k n m w =
-    admit-fine (encode l) v st c a b k (fits-encode l n) m (walk-encode v st l w) (ap whole (records-encode l) ∙ whole-agrees st l v (w .agrees))
+pub fine-of-written : (price : Price) (l : List Record) (v st : List ℕ) (c a b : ℕ) → priceFits price ≡ true → lengthsFit v st ≡ true → length l ≤ 4096
+    → areasFit (encode l) v c a b ≡ true → WellFormed st l v → admitRuling price (encode l) v st c a b ≡ Fine
+fine-of-written price l v st c a b j k n m w =
+    admit-fine price (encode l) v st c a b j k (fits-encode l n) m (walk-encode v st l w) (ap whole (records-encode l) ∙ whole-agrees st l v (w .agrees))

@@ -18,34 +18,31 @@ use Rattle.area.specs.Area.{Areas}
 use Rattle.price.specs.declared.Price.{Price}
 use Rattle.price.specs.Price.{priceFits}
 
--- number 2's opposite
+-- check 2 passes: version and store are not too long
 abbrev pub lengthsFit : List ℕ → List ℕ → Bool
 lengthsFit v st = leb (length v) versionMost && leb (length st) storeMost
 
--- number 9's opposite, for areas of lengths c, a and b: 1 byte per record, the length of the list, the length of the version
+-- check 9 passes, for areas of lengths c, a and b: 1 byte per record, the length of the list, the length of the version
 abbrev pub areasFit : List ℕ → List ℕ → ℕ → ℕ → ℕ → Bool
 areasFit list v c a b = leb (length list / 12) c && leb (length list) a && leb (length v) b
 
--- "Order", after 1: 2, 3; then 9; then record by record 4, 5, 6, 7, 8; then the short end, at place n
-abbrev pub admitRuling : List ℕ → List ℕ → List ℕ → ℕ → ℕ → ℕ → Ruling
-admitRuling list v st c a b =
-    need (lengthsFit v st) fault.TooLong 0
+-- "Order": 1, 2, 3; then 9; then record by record 4, 5, 6, 7, 8; then the short end, at place n. In areas of lengths c, a and b
+abbrev pub admitRuling : Price → List ℕ → List ℕ → List ℕ → ℕ → ℕ → ℕ → Ruling
+admitRuling price list v st c a b =
+    need (priceFits price) fault.Price 0
+    then need (lengthsFit v st) fault.TooLong 0
     then need (listFits list) fault.ListLength 0
     then need (areasFit list v c a b) fault.AreaTooShort 0
     then walkRuling (checks scope.Version v st) list
     then need (eqb (whole (recordsOf list)) (length v)) fault.Sizes (length (recordsOf list))
 
--- all checks, in areas of lengths c, a and b
-abbrev pub callRuling : Price → List ℕ → List ℕ → List ℕ → ℕ → ℕ → ℕ → Ruling
-callRuling price list v st c a b = need (priceFits price) fault.Price 0 then admitRuling list v st c a b
-
 -- all checks of a call of partition or pass, in the areas that are lent to it
 abbrev pub partitionRuling : Price → List ℕ → List ℕ → List ℕ → Areas → Ruling
-partitionRuling price list v st x = callRuling price list v st (length (x .choice)) (length (x .list)) (length (x .block))
+partitionRuling price list v st x = admitRuling price list v st (length (x .choice)) (length (x .list)) (length (x .block))
 
 -- what is found in price, list, version and store by themselves: all checks, in areas of just the lengths needed
 abbrev pub findings : Price → List ℕ → List ℕ → List ℕ → Ruling
-findings price list v st = callRuling price list v st (length list / 12) (length list) (length v)
+findings price list v st = admitRuling price list v st (length list / 12) (length list) (length v)
 
 -- areas that are long enough for partition or pass of a list and a version
 abbrev pub LongEnough : List ℕ → List ℕ → Areas → Type 0

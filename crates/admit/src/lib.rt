@@ -1,9 +1,10 @@
-// The checks that partition and pass make of their inputs and areas after the price, in their order.
+// The checks that partition and pass make of their inputs and areas, in their order.
 ghost use mathlib.Core.Path.{_≡_};
 ghost use Rattle.format.specs.Record.{recordsOf};
 ghost use Rattle.walk.specs.Walked.{walked};
 ghost use Rattle.admit.specs.Admit.{lengthsFit, areasFit, admitRuling};
 use format::Fault;
+use price::Price;
 use walk::Scope;
 use walk::Walked;
 
@@ -30,10 +31,21 @@ fn areas_fit(list: &[u8], version: &[u8], c: usize, a: usize, b: usize) -> bool
     version.len() <= b
 }
 
-// Checks 2, 3, 9, then record by record 4 to 8, then the short end, where areas of lengths c, a and b are lent.
-pub fn admit(list: &[u8], version: &[u8], store: &[u8], c: usize, a: usize, b: usize) -> Walked
-    ensures { λ r. ⌜ r ≡ walked (admitRuling (now (list .entry)) (now (version .entry)) (now (store .entry)) c a b) (recordsOf (now (list .entry))) ⌝ }
+// Checks 1, 2, 3, 9, then record by record 4 to 8, then the short end, where areas of lengths c, a and b are lent.
+pub fn admit(
+    price: Price,
+    list: &[u8],
+    version: &[u8],
+    store: &[u8],
+    c: usize,
+    a: usize,
+    b: usize,
+) -> Walked
+    ensures { λ r. ⌜ r ≡ walked (admitRuling price (now (list .entry)) (now (version .entry)) (now (store .entry)) c a b) (recordsOf (now (list .entry))) ⌝ }
 {
+    if !price::in_range(price) {
+        return walk::stopped(Fault::Price, 0);
+    }
     if !lengths_fit(version, store) {
         return walk::stopped(Fault::TooLong, 0);
     }

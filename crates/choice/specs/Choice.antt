@@ -65,7 +65,7 @@ abbrev pub spread : Free → List (List Bit) → List (List Bit)
 spread (only b) cs = put b cs
 spread either cs = put keep cs ++ put store cs
 
--- all choices, in the order in which 0 at the first record where two differ goes first
+-- all choices, in order: of two, the one with 0 at the first record where they differ comes first
 abbrev pub choices : List Record → List (List Bit)
 choices [] = [] ∷ []
 choices (r ∷ rs) = spread (freedom r) (choices rs)

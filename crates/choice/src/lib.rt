@@ -5,21 +5,21 @@ ghost use Rattle.choice.specs.Choice.{bitOf, chosenRecord};
 use format::Record;
 
 // The bytes that a record covers.
-pub fn size_of(item: Record) -> u32
-    ensures { λ r. ⌜ r ≡ sizeOf item ⌝ }
+pub fn size_of(record: Record) -> u32
+    ensures { λ r. ⌜ r ≡ sizeOf «record» ⌝ }
 {
-    match item {
+    match record {
         Record::New(size) => size,
         Record::Match(size, _) => size,
     }
 }
 
 // A record by its choice byte: a stored match becomes a new record.
-pub fn chosen(item: Record, bit: u8) -> Record
-    ensures { λ r. ⌜ r ≡ chosenRecord (bitOf bit) item ⌝ }
+pub fn chosen(record: Record, bit: u8) -> Record
+    ensures { λ r. ⌜ r ≡ chosenRecord (bitOf bit) «record» ⌝ }
 {
     if bit == 0 {
-        return item;
+        return record;
     }
-    Record::New(size_of(item))
+    Record::New(size_of(record))
 }

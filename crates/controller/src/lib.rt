@@ -47,17 +47,25 @@ pub extern "C" fn partition(
     version: &[u8],
     store: &[u8],
     choice: &mut [u8],
-    area: &mut [u8],
-    block: &mut [u8],
+    list_area: &mut [u8],
+    block_area: &mut [u8],
     answer: &mut [u8],
 ) -> u32
-    ensures { λ r. ⌜ PartitionGiven (record { e = e; f = f }) (now (list .entry)) (now (version .entry)) (now (store .entry)) (areas (now (choice .entry)) (now (area .entry)) (now (block .entry))) (now (answer .entry)) r (areas (now (choice .exit)) (now (area .exit)) (now (block .exit))) (now (answer .exit)) ⌝ }
+    ensures { λ r. ⌜ PartitionGiven (record { e = e; f = f }) (now (list .entry)) (now (version .entry)) (now (store .entry)) (areas (now (choice .entry)) (now («list_area» .entry)) (now («block_area» .entry))) (now (answer .entry)) r (areas (now (choice .exit)) (now («list_area» .exit)) (now («block_area» .exit))) (now (answer .exit)) ⌝ }
 {
     if answer.len() < 32 {
         return 9;
     }
     answer::give(
-        call_partition::partition(Price { e, f }, list, version, store, choice, area, block),
+        call_partition::partition(
+            Price { e, f },
+            list,
+            version,
+            store,
+            choice,
+            list_area,
+            block_area,
+        ),
         answer,
     )
 }
@@ -71,17 +79,25 @@ pub extern "C" fn pass(
     version: &[u8],
     store: &[u8],
     choice: &mut [u8],
-    area: &mut [u8],
-    block: &mut [u8],
+    list_area: &mut [u8],
+    block_area: &mut [u8],
     answer: &mut [u8],
 ) -> u32
-    ensures { λ r. ⌜ PassGiven (record { e = e; f = f }) (now (list .entry)) (now (version .entry)) (now (store .entry)) (areas (now (choice .entry)) (now (area .entry)) (now (block .entry))) (now (answer .entry)) r (areas (now (choice .exit)) (now (area .exit)) (now (block .exit))) (now (answer .exit)) ⌝ }
+    ensures { λ r. ⌜ PassGiven (record { e = e; f = f }) (now (list .entry)) (now (version .entry)) (now (store .entry)) (areas (now (choice .entry)) (now («list_area» .entry)) (now («block_area» .entry))) (now (answer .entry)) r (areas (now (choice .exit)) (now («list_area» .exit)) (now («block_area» .exit))) (now (answer .exit)) ⌝ }
 {
     if answer.len() < 32 {
         return 9;
     }
     answer::give(
-        call_pass::pass(Price { e, f }, list, version, store, choice, area, block),
+        call_pass::pass(
+            Price { e, f },
+            list,
+            version,
+            store,
+            choice,
+            list_area,
+            block_area,
+        ),
         answer,
     )
 }

@@ -16,12 +16,12 @@ use Rattle.format.specs.Record.{recordsOf, encode}
 use Rattle.format.specs.Meaning.{whole, blockOf, rebuilt}
 use Rattle.format.proofs.Encoding.{records-encode}
 use Rattle.price.specs.declared.Price.{Price}
-use Rattle.price.specs.Price.{priceFits, ratesOf}
+use Rattle.price.specs.Price.{ratesOf}
 use Rattle.area.specs.Area.{over, Areas}
 use Rattle.choice.specs.Choice.{Bit, listOf, keepAll}
 use Rattle.choice.proofs.Least.{least-is-least, least-fits}
 use Rattle.admit.specs.Admit.{findings, partitionRuling, LongEnough}
-use Rattle.admit.proofs.Admitting.{Sound, sound-of-fine, admitted-of-fine, findings-of-long}
+use Rattle.admit.proofs.Admitting.{Sound, sound-of-fine, findings-of-long}
 use Rattle.writer.specs.Decide.{figures, laid}
 use Rattle.writer.proofs.Deciding.{decided-answer, decided-areas, list-handed-on, block-handed-on, block-within}
 use Rattle.rebuild.specs.Rebuild.{rebuildRuling, lengthOnly, Rebuilt}
@@ -35,11 +35,8 @@ accepts-of : {a : Answer} {x : Figures} → a ≡ Accepted x → Accepts a
 accepts-of e = rw e tt
 
 module _ (price : Price) (list v st : List ℕ) (x : Calls) (fine : findings price list v st ≡ Fine) (room : Room list v x) (made : Made price list v st x) where
-  fits : priceFits price ≡ true
-  fits = admitted-of-fine price list v st (length list / 12) (length list) (length v) fine .0
-
-  sound : Sound list v st (length list / 12) (length list) (length v)
-  sound = sound-of-fine list v st (length list / 12) (length list) (length v) (admitted-of-fine price list v st (length list / 12) (length list) (length v) fine .1)
+  sound : Sound price list v st (length list / 12) (length list) (length v)
+  sound = sound-of-fine price list v st (length list / 12) (length list) (length v) fine
 
   -- partition
   first-fine : partitionRuling price list v st (x .first .before) ≡ Fine
@@ -85,7 +82,7 @@ module _ (price : Price) (list v st : List ℕ) (x : Calls) (fine : findings pri
   again-room = rw list-is at (room .again)
 
   again-fine : partitionRuling price (encode (listOf (recordsOf list) (leastOf price list))) v st (x .again .before) ≡ Fine
-  again-fine = partition-accepts sound (leastOf price list) (least-fits (ratesOf price) (recordsOf list)) price fits (x .again .before) again-room
+  again-fine = partition-accepts sound (leastOf price list) (least-fits (ratesOf price) (recordsOf list)) (x .again .before) again-room
 
   again-answer : x .again .answer ≡ Accepted (figures (ratesOf price) (listOf (recordsOf list) (leastOf price list)) 0)
   again-answer = decided-answer again-made again-fine ∙ ap (λ (l : List Record). Accepted (figures (ratesOf price) l 0)) (list-again price list)
@@ -139,8 +136,7 @@ block-there price list v st {before} d = block-within d in-version
   where
     in-version : partitionRuling price list v st before ≡ Fine → whole (listOf (recordsOf list) (leastOf price list)) ≤ length v
     in-version fine =
-        let k = admitted-of-fine price list v st (length (before .choice)) (length (before .list)) (length (before .block)) fine .1 in
-        let s = sound-of-fine list v st (length (before .choice)) (length (before .list)) (length (before .block)) k in
+        let s = sound-of-fine price list v st (length (before .choice)) (length (before .list)) (length (before .block)) fine in
         omega (arith, whole-written s (leastOf price list) (least-fits (ratesOf price) (recordsOf list)))
 
 pub demonstrated : {price : Price} {list v st : List ℕ} {x : Calls} → Made price list v st x → Demonstrated price list v st x

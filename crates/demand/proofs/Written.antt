@@ -16,9 +16,9 @@ use Rattle.format.specs.Meaning.{whole, blockOf, rebuilt}
 use Rattle.format.specs.WellFormed.{WellFormed, Readable}
 use Rattle.format.proofs.Encoding.{records-encode, fits-encode}
 use Rattle.format.proofs.Rebuilding.{rebuilt-block, length-block, whole-agrees, inside-agrees}
-use Rattle.walk.proofs.Written.{walk-sizes}
+use Rattle.walk.proofs.Encoded.{walk-sizes}
 use Rattle.price.specs.declared.Price.{Price}
-use Rattle.price.specs.Price.{priceFits, ratesOf}
+use Rattle.price.specs.Price.{ratesOf}
 use Rattle.measure.specs.Measure.{measured, measures}
 use Rattle.measure.proofs.Measuring.{measured-fine}
 use Rattle.area.specs.Area.{Areas}
@@ -32,7 +32,7 @@ use Rattle.rebuild.proofs.Accepting.{inputs-written, rebuild-fine}
 use Rattle.call_partition.specs.Partition.{leastOf}
 
 -- of any choice
-module _ {list v st : List ℕ} {c a b : ℕ} (s : Sound list v st c a b) (d : List Bit) (h : IsChoice (recordsOf list) d) where
+module _ {price : Price} {list v st : List ℕ} {c a b : ℕ} (s : Sound price list v st c a b) (d : List Bit) (h : IsChoice (recordsOf list) d) where
   pub well-formed-written : WellFormed st (listOf (recordsOf list) d) v
   well-formed-written = well-formed-list st (recordsOf list) d v h (s .well-formed)
 
@@ -54,11 +54,10 @@ module _ {list v st : List ℕ} {c a b : ℕ} (s : Sound list v st c a b) (d : L
       }
 
   -- entries, stored bytes and cost are as measure gives them
-  pub measured-written : (price : Price) → priceFits price ≡ true
-      → measured price (encode (listOf (recordsOf list) d)) ≡ Accepted (measures (ratesOf price) (listOf (recordsOf list) d))
-  measured-written price fits =
+  pub measured-written : measured price (encode (listOf (recordsOf list) d)) ≡ Accepted (measures (ratesOf price) (listOf (recordsOf list) d))
+  measured-written =
       let w = well-formed-written in
-      measured-fine price (encode (listOf (recordsOf list) d)) fits (fits-encode (listOf (recordsOf list) d) count-written)
+      measured-fine price (encode (listOf (recordsOf list) d)) (s .price-fits) (fits-encode (listOf (recordsOf list) d) count-written)
       (walk-sizes (listOf (recordsOf list) d) (w .sized) (w .apart) (omega (arith, whole-written, s .version-most)))
       ∙ ap (λ (l : List Record). Accepted (measures (ratesOf price) l)) (records-encode (listOf (recordsOf list) d))
 
@@ -73,10 +72,9 @@ module _ {list v st : List ℕ} {c a b : ℕ} (s : Sound list v st c a b) (d : L
       (rw (records-encode l, whole-written) room)
 
   -- handed to partition again, it is accepted
-  pub partition-accepts : (price : Price) → priceFits price ≡ true → (x : Areas) → LongEnough (encode (listOf (recordsOf list) d)) v x
-      → partitionRuling price (encode (listOf (recordsOf list) d)) v st x ≡ Fine
-  partition-accepts price fits x room =
-      rw (fits, fine-of-written (listOf (recordsOf list) d) v st (length (x .choice)) (length (x .list)) (length (x .block)) (s .lengths-fit) count-written room well-formed-written)
+  pub partition-accepts : (x : Areas) → LongEnough (encode (listOf (recordsOf list) d)) v x → partitionRuling price (encode (listOf (recordsOf list) d)) v st x ≡ Fine
+  partition-accepts x room =
+      fine-of-written price (listOf (recordsOf list) d) v st (length (x .choice)) (length (x .list)) (length (x .block)) (s .price-fits) (s .lengths-fit) count-written room well-formed-written
 
 -- partition's list, partitioned again
 pub least-again : (price : Price) (list : List ℕ) → let l = listOf (recordsOf list) (leastOf price list) in leastOf price (encode l) ≡ keepAll l

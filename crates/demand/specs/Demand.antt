@@ -41,7 +41,7 @@ pub record Calls : Type 0 where
   pub again : Call
   pub passed : Call
 
--- the list and the stored block that a call wrote: so many bytes of its areas as its answer says
+-- the list and the stored block that a call wrote: as many bytes of its areas as its answer says
 abbrev pub writtenList : Call → List ℕ
 writtenList x = take (12 * figuresIn (x .answer) .entries) (x .after .list)
 

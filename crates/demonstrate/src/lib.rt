@@ -23,14 +23,22 @@ fn hand_on<'a>(
     store: &'a [u8],
     out: &mut [u8],
     choice2: &mut [u8],
-    area2: &mut [u8],
-    block2: &mut [u8],
+    list_area2: &mut [u8],
+    block_area2: &mut [u8],
 ) -> Both
     ensures { λ r. ⌜ Rebuilt (now (list .entry)) (now (block .entry)) (now (store .entry)) (now (out .entry)) (r .rebuilt) (now (out .exit)) ⌝ }
-    ensures { λ r. ⌜ Partitioned price (now (list .entry)) (now (version .entry)) (now (store .entry)) (areas (now (choice2 .entry)) (now (area2 .entry)) (now (block2 .entry))) (r .again) (areas (now (choice2 .exit)) (now (area2 .exit)) (now (block2 .exit))) ⌝ }
+    ensures { λ r. ⌜ Partitioned price (now (list .entry)) (now (version .entry)) (now (store .entry)) (areas (now (choice2 .entry)) (now («list_area2» .entry)) (now («block_area2» .entry))) (r .again) (areas (now (choice2 .exit)) (now («list_area2» .exit)) (now («block_area2» .exit))) ⌝ }
 {
     let rebuilt = rebuild::rebuild(list, block, store, out);
-    let again = call_partition::partition(price, list, version, store, choice2, area2, block2);
+    let again = call_partition::partition(
+        price,
+        list,
+        version,
+        store,
+        choice2,
+        list_area2,
+        block_area2,
+    );
     Both { rebuilt, again }
 }
 
@@ -41,36 +49,52 @@ pub fn demonstrate<'a>(
     version: &'a [u8],
     store: &'a [u8],
     choice: &mut [u8],
-    area: &mut [u8],
-    block: &mut [u8],
+    list_area: &mut [u8],
+    block_area: &mut [u8],
     out: &mut [u8],
     choice2: &mut [u8],
-    area2: &mut [u8],
-    block2: &mut [u8],
+    list_area2: &mut [u8],
+    block_area2: &mut [u8],
     choice3: &mut [u8],
-    area3: &mut [u8],
-    block3: &mut [u8],
+    list_area3: &mut [u8],
+    block_area3: &mut [u8],
 ) -> Answers
-    ensures { λ r. ⌜ Demonstrated price (now (list .entry)) (now (version .entry)) (now (store .entry)) (callsOf r (areas (now (choice .entry)) (now (area .entry)) (now (block .entry))) (areas (now (choice .exit)) (now (area .exit)) (now (block .exit))) (now (out .entry)) (now (out .exit)) (areas (now (choice2 .entry)) (now (area2 .entry)) (now (block2 .entry))) (areas (now (choice2 .exit)) (now (area2 .exit)) (now (block2 .exit))) (areas (now (choice3 .entry)) (now (area3 .entry)) (now (block3 .entry))) (areas (now (choice3 .exit)) (now (area3 .exit)) (now (block3 .exit)))) ⌝ }
+    ensures { λ r. ⌜ Demonstrated price (now (list .entry)) (now (version .entry)) (now (store .entry)) (callsOf r (areas (now (choice .entry)) (now («list_area» .entry)) (now («block_area» .entry))) (areas (now (choice .exit)) (now («list_area» .exit)) (now («block_area» .exit))) (now (out .entry)) (now (out .exit)) (areas (now (choice2 .entry)) (now («list_area2» .entry)) (now («block_area2» .entry))) (areas (now (choice2 .exit)) (now («list_area2» .exit)) (now («block_area2» .exit))) (areas (now (choice3 .entry)) (now («list_area3» .entry)) (now («block_area3» .entry))) (areas (now (choice3 .exit)) (now («list_area3» .exit)) (now («block_area3» .exit)))) ⌝ }
 {
-    let first = call_partition::partition(price, list, version, store, choice, area, block);
+    let first = call_partition::partition(
+        price,
+        list,
+        version,
+        store,
+        choice,
+        list_area,
+        block_area,
+    );
     let figures = format::figures_of(first);
     let n = 12 * format::index(figures.entries);
     let m = format::index(figures.stored);
     let both = hand_on(
         price,
-        &area[0..n],
-        &block[0..m],
+        &list_area[0..n],
+        &block_area[0..m],
         version,
         store,
         out,
         choice2,
-        area2,
-        block2,
+        list_area2,
+        block_area2,
     );
     let rebuilt = both.rebuilt;
     let again = both.again;
-    let passed = call_pass::pass(price, list, version, store, choice3, area3, block3);
+    let passed = call_pass::pass(
+        price,
+        list,
+        version,
+        store,
+        choice3,
+        list_area3,
+        block_area3,
+    );
     Answers {
         first,
         rebuilt,

@@ -58,11 +58,11 @@ recordsOf l = records (rowsOf l)
 abbrev pub recordsFrom : List ℕ → ℕ → ℕ → List Record
 recordsFrom list n i = records (from (rowAt list) i (n - i))
 
--- number 4's opposite: kind 0 or 1, bytes 1 to 3 zero, a size, and no address in a new record
+-- check 4 passes: kind 0 or 1, bytes 1 to 3 zero, a size, and no address in a new record
 abbrev pub wellFormed : Row → Bool
 wellFormed r = leb (r .kind) 1 && eqb (r .byte1) 0 && eqb (r .byte2) 0 && eqb (r .byte3) 0 && leb 1 (r .size) && (not (isNew r) || eqb (r .address) 0)
 
--- number 3's opposite
+-- check 3 passes: a multiple of 12, and not over 49,152
 abbrev pub listFits : List ℕ → Bool
 listFits l = leb (length l) listMost && eqb (length l % 12) 0
 

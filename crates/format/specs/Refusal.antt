@@ -56,6 +56,6 @@ figuresIn (Accepted x) = x
 figuresIn (Refused r) = record { cost = 0; entries = 0; stored = 0; looks = 0; whole = 0 }
 
 -- what a call leaves of its areas: where it is refused, what they held
-abbrev pub written : {A : Type 0} → Ruling → A → A → A
-written Fine after before = after
-written (Stop r) after before = before
+abbrev pub unlessRefused : {A : Type 0} → Ruling → A → A → A
+unlessRefused Fine after before = after
+unlessRefused (Stop r) after before = before

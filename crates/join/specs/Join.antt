@@ -13,7 +13,7 @@ jointOf (New s) (New t) = One (New (s + t))
 jointOf (New s) (Match t a) = No
 jointOf (Match s a) r = No
 
--- a record before a list, with the first one of which it joins, or not
+-- a record put before a list: it joins the first of the list, or stays by itself
 abbrev pub placed : Open → List Record → List Record → List Record
 placed No rest both = both
 placed (One x) rest both = x ∷ rest

@@ -42,21 +42,21 @@ fn record_bytes(kind: u8, size: u32, address: u32) -> [u8; 12]
 }
 
 // The 12 bytes of a record.
-fn bytes_of(item: Record) -> [u8; 12]
-    ensures { λ b. ⌜ b ≡ bytesOf item ⌝ }
+fn bytes_of(record: Record) -> [u8; 12]
+    ensures { λ b. ⌜ b ≡ bytesOf «record» ⌝ }
 {
-    match item {
+    match record {
         Record::New(size) => record_bytes(0, size, 0),
         Record::Match(size, address) => record_bytes(1, size, address),
     }
 }
 
 // Writes a record over the area from `out` on.
-fn put_record(area: &mut [u8], out: usize, item: Record)
+fn put_record(area: &mut [u8], out: usize, record: Record)
     requires { ⌜ out + 12 ≤ length (now area) ⌝ }
-    ensures { λ _. ⌜ now (area .exit) ≡ pasted out (bytesOf item) (now (area .entry)) ⌝ }
+    ensures { λ _. ⌜ now (area .exit) ≡ pasted out (bytesOf «record») (now (area .entry)) ⌝ }
 {
-    let b = bytes_of(item);
+    let b = bytes_of(record);
     area::put(area, out, &b);
 }
 
@@ -75,23 +75,23 @@ fn joint(first: Record, second: Record) -> Open
 }
 
 // Takes in the next record: it joins the open one, or the open one is written.
-pub fn emit(area: &mut [u8], out: usize, last: Open, item: Record) -> Emitted
-    requires { ⌜ out + length (encode (flushed last item)) ≤ length (now area) ⌝ }
-    requires { ⌜ openSize last + openSize (Open.One item) < 4294967296 ⌝ }
-    ensures { λ r. ⌜ Emits (now (area .entry)) out last item r (now (area .exit)) ⌝ }
+pub fn emit(area: &mut [u8], out: usize, last: Open, record: Record) -> Emitted
+    requires { ⌜ out + length (encode (flushed last «record»)) ≤ length (now area) ⌝ }
+    requires { ⌜ openSize last + openSize (Open.One «record») < 4294967296 ⌝ }
+    ensures { λ r. ⌜ Emits (now (area .entry)) out last «record» r (now (area .exit)) ⌝ }
 {
     let Open::One(held) = last else {
         return Emitted {
             out,
-            last: Open::One(item),
+            last: Open::One(record),
         };
     };
-    let both = joint(held, item);
+    let both = joint(held, record);
     let Open::One(_) = both else {
         put_record(area, out, held);
         return Emitted {
             out: out + 12,
-            last: Open::One(item),
+            last: Open::One(record),
         };
     };
     Emitted { out, last: both }

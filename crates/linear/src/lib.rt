@@ -1,7 +1,7 @@
 // The pass: the linear method of source document 001, look by look, and the choice that its list stands for.
 //
 // In order: the carried list; what a look sees; the advance and the four merges; a look; the run; a list loaded; a choice read off; the pass.
-// Not here: what a look comes to (the crate rules), and what is refused. Callers hand in lists that were accepted.
+// Not here: the outcome of a look (the crate rules), and what is refused. Callers hand in lists that were accepted.
 ghost use mathlib.Core.Path.{_≡_};
 ghost use Prim.Native.Nat.{_+_, _≤_, _<_};
 ghost use lib.ListN.{length};
@@ -150,7 +150,7 @@ fn move_of(left: usize, right: usize, sight: Sight, outcome: Outcome) -> Move
     }
 }
 
-// One look at p: what it comes to, by what it sees on the list.
+// One look at p: its outcome, by what it sees on the list.
 fn look(machine: Machine, rates: Rates) -> Step
     requires { ⌜ Ready rates machine ⌝ }
     ensures { λ r. ⌜ Looked rates machine r ⌝ }
@@ -168,7 +168,7 @@ fn look(machine: Machine, rates: Rates) -> Step
     }
 }
 
-// Looks until p is the rear, does to the list what each look comes to, and counts the looks.
+// Looks until p is the rear, carries out the outcome of each look on the list, and counts the looks.
 fn run(machine: Machine, rates: Rates) -> Passed
     requires { ⌜ Runnable rates machine ⌝ }
     ensures { λ r. ⌜ Ran rates (rightOf machine) r ⌝ }
@@ -193,10 +193,10 @@ fn run(machine: Machine, rates: Rates) -> Passed
 }
 
 // The kind of a record: 0 new, 1 match.
-fn kind_of(item: Record) -> u8
-    ensures { λ r. ⌜ itemOf r (sizeOf item) ≡ itemFor item ⌝ }
+fn kind_of(record: Record) -> u8
+    ensures { λ r. ⌜ itemOf r (sizeOf «record») ≡ itemFor «record» ⌝ }
 {
-    match item {
+    match record {
         Record::New(_) => 0,
         Record::Match(_, _) => 1,
     }
@@ -214,9 +214,9 @@ fn load(list: &[u8]) -> Machine
     while 0 < i {
         i -= 1;
         right -= 1;
-        let item = format::record_of(format::row_at(list, i));
-        kinds[right] = kind_of(item);
-        sizes[right] = choice::size_of(item);
+        let record = format::record_of(format::row_at(list, i));
+        kinds[right] = kind_of(record);
+        sizes[right] = choice::size_of(record);
     }
     Machine {
         kinds,
@@ -233,7 +233,7 @@ fn bit_of(kind: u8) -> u8
     if kind == 0 { 1 } else { 0 }
 }
 
-// Writes one choice byte for each record: records and end items go side by side, by their sizes.
+// Writes one choice byte for each record, in one traversal of the records and of the last list's items, by their sizes.
 fn read_off(machine: Machine, list: &[u8], choice: &mut [u8])
     requires { ⌜ Covering machine (now list) (now choice) ⌝ }
     ensures { λ _. ⌜ now (choice .exit) ≡ over (bitBytes (choiceOf (recordsOf (now (list .entry))) (endOf machine))) (now (choice .entry)) ⌝ }
@@ -243,8 +243,8 @@ fn read_off(machine: Machine, list: &[u8], choice: &mut [u8])
     let mut uncovered = machine.sizes[1];
     let mut i = 0;
     while i < n {
-        let item = format::record_of(format::row_at(list, i));
-        let size = choice::size_of(item);
+        let record = format::record_of(format::row_at(list, i));
+        let size = choice::size_of(record);
         choice[i] = bit_of(machine.kinds[at]);
         i += 1;
         if size < uncovered {

@@ -5,7 +5,6 @@ use format::Answer;
 use format::Fault;
 use format::Figures;
 use price::Price;
-use price::Priced;
 use walk::Scope;
 use walk::Walked;
 
@@ -13,10 +12,9 @@ use walk::Walked;
 pub fn measure(price: Price, list: &[u8]) -> Answer
     ensures { λ r. ⌜ r ≡ measured price (now (list .entry)) ⌝ }
 {
-    let priced = price::rates_of(price);
-    let Priced::At(rates) = priced else {
+    if !price::in_range(price) {
         return format::refused(Fault::Price);
-    };
+    }
     if !format::list_fits(list) {
         return format::refused(Fault::ListLength);
     }
@@ -25,7 +23,7 @@ pub fn measure(price: Price, list: &[u8]) -> Answer
     let Walked::Through(t) = walked else {
         return Answer::Refused(walk::refusal_of(walked));
     };
-    let cost = price::cost_of(rates, list, t.stored);
+    let cost = price::cost_of(price::rates_of(price), list, t.stored);
     Answer::Accepted(Figures {
         cost: cost.0,
         entries: t.entries,

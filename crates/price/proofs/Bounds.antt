@@ -4,7 +4,7 @@ use Prim.Native.Nat.{ℕ, _+_, _*_, _≤_}
 use native.Mathlib.Omega.{arith}
 use native.Mathlib.Nat.{mul-le-mul}
 use mathlib.Core.Path.{_≡_, refl, ap}
-use mathlib.Core.Bool.{Bool, true, false, _&&_, cond}
+use mathlib.Core.Bool.{true, _&&_}
 use mathlib.Core.List.{List, [], _∷_}
 use lib.Dec.{leb}
 use lib.ListN.{length}
@@ -15,8 +15,7 @@ use Rattle.format.specs.Meaning.{stored}
 use Rattle.format.proofs.Rulings.{both-of-and}
 use Rattle.price.specs.declared.Price.{Price}
 use Rattle.price.specs.declared.Rates.{Rates}
-use Rattle.price.specs.declared.Priced.the-variants.{At, OutOfRange}
-use Rattle.price.specs.Price.{priceFits, ratesAt, ratesOf, priced, news, matches, cost, RatesFit}
+use Rattle.price.specs.Price.{priceFits, ratesAt, ratesOf, news, matches, cost, RatesFit}
 
 pub product-most : (a b m n : ℕ) → a ≤ m → b ≤ n → a * b ≤ m * n
 product-most a b m n h k = mul-le-mul {n₁ = a} {m₁ = b} {n₂ = m} {m₂ = n} h k
@@ -39,21 +38,6 @@ rates-fit k h =
     let r = range-of-fits k h in
     let p = product-most (k .f) (k .e) 65535 255 (r .f-most) (r .e-most) in
     record { fresh-most = p; kept-most = p; byte-most = omega arith }
-
--- what the rates of a price tell
-pub fits-of-at : (k : Price) (r : Rates) → priced k ≡ At r → (priceFits k ≡ true) × (r ≡ ratesOf k)
-fits-of-at k r h = go (priceFits k) refl h
-  where
-    go : (t : Bool) → priceFits k ≡ t → cond t (At (ratesOf k)) OutOfRange ≡ At r → (priceFits k ≡ true) × (r ≡ ratesOf k)
-    go true f l = (f, let m : r ≡ ratesOf k = cc in m)
-    go false f l = absurd (let z : _≡_ {A = ℕ} 0 1 = cc in omega arith)
-
-pub unfit-of-range : (k : Price) → priced k ≡ OutOfRange → priceFits k ≡ false
-unfit-of-range k h = go (priceFits k) refl h
-  where
-    go : (t : Bool) → priceFits k ≡ t → cond t (At (ratesOf k)) OutOfRange ≡ OutOfRange → priceFits k ≡ false
-    go true f l = absurd (let z : _≡_ {A = ℕ} 0 1 = cc in omega arith)
-    go false f l = f
 
 -- ---- the rates at the price p of an entry
 

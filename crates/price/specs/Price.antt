@@ -2,7 +2,7 @@
 -- Assumes nothing.
 use Prim.Native.Nat.{ℕ, suc, _+_, _*_, _≤_, _<_}
 use mathlib.Core.Path.{_≡_}
-use mathlib.Core.Bool.{Bool, _&&_, cond}
+use mathlib.Core.Bool.{Bool, _&&_}
 use mathlib.Core.List.{List, [], _∷_}
 use lib.Dec.{leb}
 use lib.ListN.{length}
@@ -14,8 +14,6 @@ use Rattle.format.specs.Meaning.{stored}
 use Rattle.price.specs.declared.DiskBytes.{DiskBytes}
 use Rattle.price.specs.declared.Price.{Price}
 use Rattle.price.specs.declared.Rates.{Rates}
-use Rattle.price.specs.declared.Priced.{Priced}
-use Rattle.price.specs.declared.Priced.the-variants.{At, OutOfRange}
 
 -- E is 1 to 255, F is 1 to 65,535
 abbrev pub priceFits : Price → Bool
@@ -32,10 +30,6 @@ ratesAt p = record { fresh = record { 0 = p }; kept = record { 0 = p }; byte = r
 -- document 01's rates: P, P and 1
 abbrev pub ratesOf : Price → Rates
 ratesOf k = ratesAt (entryPrice k)
-
--- the rates, or number 1
-abbrev pub priced : Price → Priced
-priced k = cond (priceFits k) (At (ratesOf k)) OutOfRange
 
 -- ---- the cost of a list
 

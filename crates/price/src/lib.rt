@@ -6,7 +6,7 @@ ghost use Prim.Native.Nat.{_*_, _≤_, _<_};
 ghost use mathlib.Core.List.{[], _∷_};
 ghost use lib.ListN.{length};
 ghost use Rattle.format.specs.Record.{recordsOf};
-ghost use Rattle.price.specs.Price.{priceFits, priced, news, cost, RatesFit, Storing, Tallied, Countable};
+ghost use Rattle.price.specs.Price.{priceFits, ratesOf, news, cost, RatesFit, Storing, Tallied, Countable};
 use format::Record;
 
 // Bytes of the index.
@@ -28,12 +28,6 @@ pub struct Rates {
     pub byte: DiskBytes,
 }
 
-// The rates of a price, where E and F are in their ranges.
-pub enum Priced {
-    At(Rates),
-    OutOfRange,
-}
-
 // The disk bytes that index bytes are worth, at so many for each.
 pub fn worth(index: IndexBytes, factor: u32) -> DiskBytes
     requires { ⌜ index .0 < 4294967296 ⌝ }
@@ -43,7 +37,7 @@ pub fn worth(index: IndexBytes, factor: u32) -> DiskBytes
 }
 
 // Check 1: whether E and F are in their ranges.
-fn in_range(price: Price) -> bool
+pub fn in_range(price: Price) -> bool
     ensures { λ r. ⌜ r ≡ priceFits price ⌝ }
 {
     if price.e < 1 {
@@ -58,19 +52,16 @@ fn in_range(price: Price) -> bool
     price.f <= 65535
 }
 
-// The rates of a price in range: an entry costs P, new or match, and a stored byte costs 1.
-pub fn rates_of(price: Price) -> Priced
-    ensures { λ r. ⌜ r ≡ priced price ⌝ }
+// The rates of a price: an entry costs P, new or match, and a stored byte costs 1.
+pub fn rates_of(price: Price) -> Rates
+    ensures { λ r. ⌜ r ≡ ratesOf price ⌝ }
 {
-    if !in_range(price) {
-        return Priced::OutOfRange;
-    }
     let p = worth(IndexBytes(price.e as u64), price.f);
-    Priced::At(Rates {
+    Rates {
         fresh: p,
         kept: p,
         byte: DiskBytes(1),
-    })
+    }
 }
 
 // What so many stored bytes cost.
@@ -82,10 +73,10 @@ pub fn storing(rates: Rates, bytes: u32) -> DiskBytes
 }
 
 // 1 for a new record, 0 for a match.
-fn one_if_new(item: Record) -> u64
-    ensures { λ r. ⌜ (r ≡ news (item ∷ [])) × (r ≤ 1) ⌝ }
+fn one_if_new(record: Record) -> u64
+    ensures { λ r. ⌜ (r ≡ news («record» ∷ [])) × (r ≤ 1) ⌝ }
 {
-    match item {
+    match record {
         Record::New(_) => 1,
         Record::Match(_, _) => 0,
     }

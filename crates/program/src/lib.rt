@@ -22,20 +22,28 @@ fn listed(
     version: &[u8],
     store: &[u8],
     choice: &mut [u8],
-    area: &mut [u8],
-    block: &mut [u8],
+    list_area: &mut [u8],
+    block_area: &mut [u8],
     text: &mut [u8],
     y: Figures,
 ) -> usize
-    requires { ⌜ Roomy (now list) (now version) (now choice) (now area) (now block) (now text) ⌝ }
+    requires { ⌜ Roomy (now list) (now version) (now choice) (now «list_area») (now «block_area») (now text) ⌝ }
     ensures { λ r. ⌜ Written 0 (textFor (findings price (now (list .entry)) (now (version .entry)) (now (store .entry))) (ratesOf price) (recordsOf (now (list .entry))) y) (now (text .entry)) r (now (text .exit)) ⌝ }
 {
-    let answer = call_partition::partition(price, list, version, store, choice, area, block);
+    let answer = call_partition::partition(
+        price,
+        list,
+        version,
+        store,
+        choice,
+        list_area,
+        block_area,
+    );
     match answer {
         Answer::Refused(r) => report::refusal(text, r),
         Answer::Accepted(x) => {
             let n = 12 * format::index(x.entries);
-            report::report(text, &area[0..n], x, y)
+            report::report(text, &list_area[0..n], x, y)
         }
     }
 }
@@ -47,17 +55,27 @@ fn text_of(
     version: &[u8],
     store: &[u8],
     choice: &mut [u8],
-    area: &mut [u8],
-    block: &mut [u8],
+    list_area: &mut [u8],
+    block_area: &mut [u8],
     text: &mut [u8],
 ) -> usize
-    requires { ⌜ Roomy (now list) (now version) (now choice) (now area) (now block) (now text) ⌝ }
+    requires { ⌜ Roomy (now list) (now version) (now choice) (now «list_area») (now «block_area») (now text) ⌝ }
     ensures { λ r. ⌜ Written 0 (programText price (now (list .entry)) (now (version .entry)) (now (store .entry))) (now (text .entry)) r (now (text .exit)) ⌝ }
 {
-    let answer = call_pass::pass(price, list, version, store, choice, area, block);
+    let answer = call_pass::pass(price, list, version, store, choice, list_area, block_area);
     match answer {
         Answer::Refused(r) => report::refusal(text, r),
-        Answer::Accepted(y) => listed(price, list, version, store, choice, area, block, text, y),
+        Answer::Accepted(y) => listed(
+            price,
+            list,
+            version,
+            store,
+            choice,
+            list_area,
+            block_area,
+            text,
+            y,
+        ),
     }
 }
 
@@ -67,16 +85,16 @@ fn text_of_held(price: Price, items: &[u8], version: &[u8], store: &[u8], text: 
     ensures { λ r. ⌜ Written 0 (programText price (now (items .entry)) (now (version .entry)) (now (store .entry))) (now (text .entry)) r (now (text .exit)) ⌝ }
 {
     let mut choice = io::large_buffer();
-    let mut area = io::large_buffer();
-    let mut block = io::large_buffer();
+    let mut list_area = io::large_buffer();
+    let mut block_area = io::large_buffer();
     text_of(
         price,
         items,
         version,
         store,
         &mut choice,
-        &mut area,
-        &mut block,
+        &mut list_area,
+        &mut block_area,
         text,
     )
 }

@@ -23,7 +23,7 @@ use Rattle.format.proofs.Rows.{Counted, counted-of-fits}
 use Rattle.walk.specs.declared.Scope.the-variants as scope
 use Rattle.walk.specs.Checks.{checks, walkRuling, front}
 use Rattle.format.proofs.Encoding.{records-encode, fits-encode}
-use Rattle.walk.proofs.Written.{walk-store}
+use Rattle.walk.proofs.Encoded.{walk-store}
 use Rattle.walk.proofs.Accepted.{each-of-fine, sized-of-four, apart-of-five, whole-of-six, inside-of-seven}
 use Rattle.rebuild.specs.Rebuild.{inputsRuling, checkRuling, rebuildRuling}
 

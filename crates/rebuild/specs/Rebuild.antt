@@ -10,7 +10,7 @@ use Rattle.format.specs.declared.Ruling.{Ruling}
 use Rattle.format.specs.declared.Figures.{Figures}
 use Rattle.format.specs.declared.Answer.{Answer}
 use Rattle.format.specs.Limits.{storeMost}
-use Rattle.format.specs.Refusal.{need, _then_, answer, written}
+use Rattle.format.specs.Refusal.{need, _then_, answer, unlessRefused}
 use Rattle.format.specs.Record.{listFits, recordsOf}
 use Rattle.format.specs.Meaning.{whole, stored, rebuilt}
 use Rattle.format.specs.WellFormed.{Inside}
@@ -49,7 +49,7 @@ abbrev pub rebuildAnswer : List ℕ → List ℕ → List ℕ → List ℕ → A
 rebuildAnswer list block st area = answer (rebuildRuling list block st area) (lengthOnly (whole (recordsOf list)))
 
 abbrev pub rebuildArea : List ℕ → List ℕ → List ℕ → List ℕ → List ℕ
-rebuildArea list block st area = written (rebuildRuling list block st area) (filled list block st area) area
+rebuildArea list block st area = unlessRefused (rebuildRuling list block st area) (filled list block st area) area
 
 -- the answer r, and the area after the call
 pub record Rebuilt (list block st area : List ℕ) (r : Answer) (after : List ℕ) : Type 0 where

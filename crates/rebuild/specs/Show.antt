@@ -4,7 +4,7 @@ use Prim.Native.Nat.{ℕ, _+_, _≤_}
 use mathlib.Core.List.{List}
 use lib.ListN.{length, take, drop}
 use denote.Ref.{RefT, ptr, now}
-use Rattle.format.specs.Refusal.{written}
+use Rattle.format.specs.Refusal.{unlessRefused}
 use Rattle.format.specs.Record.{recordsOf}
 use Rattle.format.specs.Meaning.{Part, ofBlock, ofStore, partAt}
 use Rattle.rebuild.specs.Rebuild.{checkRuling}
@@ -32,4 +32,4 @@ Lies (ofStore a n) block st = a + n ≤ length st
 
 -- the part that record k stands for, or the first 0 bytes of the stored block where check refuses
 abbrev pub shown : List ℕ → RefT (List ℕ) → RefT (List ℕ) → ℕ → Where
-shown list block st k = lent block st (written (checkRuling list (now block) (now st) k) (partAt (recordsOf list) k) (ofBlock 0 0))
+shown list block st k = lent block st (unlessRefused (checkRuling list (now block) (now st) k) (partAt (recordsOf list) k) (ofBlock 0 0))

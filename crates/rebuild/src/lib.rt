@@ -1,6 +1,6 @@
 // The calls that read a list with its stored block and the store: check, show and rebuild.
 //
-// All three make the same checks of list, block and store (`accept`); none looks back at them once they are made.
+// All three begin with the same checks of list, block and store (`accept`).
 ghost use mathlib.Core.Path.{_≡_};
 ghost use Prim.Native.Nat.{_+_, _≤_, _<_};
 ghost use mathlib.Core.List.{[], _∷_};
@@ -17,7 +17,7 @@ use format::Record;
 use walk::Scope;
 use walk::Walked;
 
-// What an accepted call answers that gives the whole length, or nothing but that.
+// The answer of an accepted call that gives a whole length and no other figure; 0 where it gives none.
 fn accepted(whole: u32) -> Answer
     ensures { λ r. ⌜ r ≡ Answer.Accepted (record { cost = 0; entries = 0; stored = 0; looks = 0; whole = whole }) ⌝ }
 {
@@ -76,11 +76,11 @@ pub fn check(list: &[u8], block: &[u8], store: &[u8], k: u32) -> Answer
 }
 
 // The part that a record stands for, where so many stored bytes come before it.
-fn part_of<'a>(item: Record, before: usize, block: &'a [u8], store: &'a [u8]) -> &'a [u8]
-    requires { ⌜ Lies (partOf before item) (now block) (now store) ⌝ }
-    ensures { λ r. ⌜ whereOf r ≡ lent (block .entry) (store .entry) (partOf before item) ⌝ }
+fn part_of<'a>(record: Record, before: usize, block: &'a [u8], store: &'a [u8]) -> &'a [u8]
+    requires { ⌜ Lies (partOf before «record») (now block) (now store) ⌝ }
+    ensures { λ r. ⌜ whereOf r ≡ lent (block .entry) (store .entry) (partOf before «record») ⌝ }
 {
-    match item {
+    match record {
         Record::New(size) => {
             let to = before + format::index(size);
             &block[before..to]
@@ -94,11 +94,11 @@ fn part_of<'a>(item: Record, before: usize, block: &'a [u8], store: &'a [u8]) ->
 }
 
 // The stored bytes up to the end of a record, where so many come before it.
-fn stored_after(item: Record, before: usize) -> usize
-    requires { ⌜ before + stored (item ∷ []) < 18446744073709551616 ⌝ }
-    ensures { λ r. ⌜ r ≡ before + stored (item ∷ []) ⌝ }
+fn stored_after(record: Record, before: usize) -> usize
+    requires { ⌜ before + stored («record» ∷ []) < 18446744073709551616 ⌝ }
+    ensures { λ r. ⌜ r ≡ before + stored («record» ∷ []) ⌝ }
 {
-    match item {
+    match record {
         Record::New(size) => before + format::index(size),
         Record::Match(_, _) => before,
     }
@@ -112,8 +112,8 @@ fn stored_before(list: &[u8], k: usize) -> usize
     let mut sum = 0;
     let mut i = 0;
     while i < k {
-        let item = format::record_of(format::row_at(list, i));
-        sum = stored_after(item, sum);
+        let record = format::record_of(format::row_at(list, i));
+        sum = stored_after(record, sum);
         i += 1;
     }
     sum
@@ -128,8 +128,8 @@ pub fn show<'a>(list: &[u8], block: &'a [u8], store: &'a [u8], k: u32) -> &'a [u
         return &block[0..0];
     };
     let i = format::index(k);
-    let item = format::record_of(format::row_at(list, i));
-    part_of(item, stored_before(list, i), block, store)
+    let record = format::record_of(format::row_at(list, i));
+    part_of(record, stored_before(list, i), block, store)
 }
 
 // Copies what each record stands for, one after the other.
@@ -142,11 +142,11 @@ fn fill<'a>(list: &[u8], block: &'a [u8], store: &'a [u8], area: &mut [u8])
     let mut out = 0;
     let mut i = 0;
     while i < n {
-        let item = format::record_of(format::row_at(list, i));
-        let part = part_of(item, used, block, store);
+        let record = format::record_of(format::row_at(list, i));
+        let part = part_of(record, used, block, store);
         area::put(area, out, part);
         out += part.len();
-        used = stored_after(item, used);
+        used = stored_after(record, used);
         i += 1;
     }
 }

@@ -65,12 +65,12 @@ fn put_match(area: &mut [u8], at: usize, size: u32, address: u32) -> usize
 }
 
 // The line of a record.
-fn put_record(area: &mut [u8], at: usize, item: Record) -> usize
+fn put_record(area: &mut [u8], at: usize, record: Record) -> usize
     requires { ⌜ at + 44 ≤ length (now area) ⌝ }
-    ensures { λ r. ⌜ Written at (recordText item) (now (area .entry)) r (now (area .exit)) ⌝ }
+    ensures { λ r. ⌜ Written at (recordText «record») (now (area .entry)) r (now (area .exit)) ⌝ }
     ensures { λ r. ⌜ r ≤ at + 44 ⌝ }
 {
-    match item {
+    match record {
         Record::New(size) => put_last(area, at, b"N ", size),
         Record::Match(size, address) => put_match(area, at, size, address),
     }

@@ -1,4 +1,4 @@
-// The rules of the pass: what a look at a record comes to, by the kinds and sizes around it.
+// The rules of the pass: the outcome of a look at a record, by the kinds and sizes around it.
 //
 // In order: the outcomes; a kind and a size; the rules after a new record; all five rules.
 // Not here: the list that the looks go over, and what an outcome does to it.

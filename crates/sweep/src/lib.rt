@@ -19,15 +19,15 @@ pub struct Turn {
 }
 
 // One record from the rear: `kept` and `stored` are the least costs of what follows it, after it is kept and after it is stored.
-fn weigh(rates: Rates, item: Record, kept: DiskBytes, stored: DiskBytes) -> Turn
+fn weigh(rates: Rates, record: Record, kept: DiskBytes, stored: DiskBytes) -> Turn
     requires { ⌜ (RatesFit rates) × (kept .0 ≤ 4503599644082176) × (stored .0 ≤ 4503599644082176) ⌝ }
-    ensures { λ t. ⌜ Turned rates item (kept .0) (stored .0) t ⌝ }
+    ensures { λ t. ⌜ Turned rates «record» (kept .0) (stored .0) t ⌝ }
 {
-    let bytes = price::storing(rates, choice::size_of(item));
+    let bytes = price::storing(rates, choice::size_of(record));
     let keep = DiskBytes(rates.kept.0 + kept.0);
     let fresh = DiskBytes(rates.fresh.0 + bytes.0 + stored.0);
     let joined = DiskBytes(bytes.0 + stored.0);
-    if let Record::New(_) = item {
+    if let Record::New(_) = record {
         return Turn {
             kept: fresh,
             stored: joined,

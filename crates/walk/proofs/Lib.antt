@@ -3,4 +3,4 @@ pub mod Judged
 pub mod Walking
 pub mod Telling
 pub mod Accepted
-pub mod Written
+pub mod Encoded

@@ -84,7 +84,7 @@ module _ {q : Ruling} {rates : Rates} {list v : List ℕ} {c : List Bit} {looks 
     pub block-room : n ≤ length (after .block)
     block-room = rw decided-areas (omega (arith, whole-block, front-room (blockOf (listOf (recordsOf list) c) v) (before .block)))
 
--- so many bytes as an answer says are there, refused or not
+-- as many bytes as an answer says are there, refused or not
 module _ {q : Ruling} {rates : Rates} {list v : List ℕ} {c : List Bit} {looks : ℕ} {before : Areas} {r : Answer} {after : Areas} (d : Decided q rates list v c looks before r after) where
   pub list-within : 12 * figuresIn r .entries ≤ length (after .list)
   list-within = go q refl

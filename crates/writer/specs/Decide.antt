@@ -9,7 +9,7 @@ use Rattle.format.specs.declared.Ruling.{Ruling}
 use Rattle.format.specs.declared.Figures.{Figures}
 use Rattle.format.specs.declared.Answer.{Answer}
 use Rattle.format.specs.declared.Answer.the-variants.{Accepted}
-use Rattle.format.specs.Refusal.{answer, written}
+use Rattle.format.specs.Refusal.{answer, unlessRefused}
 use Rattle.format.specs.Record.{recordsOf, encode}
 use Rattle.format.specs.Meaning.{stored, blockOf}
 use Rattle.price.specs.declared.Rates.{Rates}
@@ -31,7 +31,7 @@ abbrev pub decidedAnswer : Ruling → Rates → List ℕ → List Bit → ℕ �
 decidedAnswer q rates list c looks = answer q (figures rates (listOf (recordsOf list) c) looks)
 
 abbrev pub decidedAreas : Ruling → List ℕ → List ℕ → List Bit → Areas → Areas
-decidedAreas q list v c before = written q (laid c (listOf (recordsOf list) c) v before) before
+decidedAreas q list v c before = unlessRefused q (laid c (listOf (recordsOf list) c) v before) before
 
 -- the answer r and the areas after a call that takes the choice c
 pub record Decided (q : Ruling) (rates : Rates) (list v : List ℕ) (c : List Bit) (looks : ℕ) (before : Areas) (r : Answer) (after : Areas) : Type 0 where

@@ -13,13 +13,13 @@ use Rattle.walk.specs.declared.Totals.{Totals}
 use Rattle.walk.specs.declared.Walked.the-variants.{Through, Stopped}
 use Rattle.walk.specs.Checks.{checks, walkRuling}
 use Rattle.walk.proofs.Telling.{fine-of-through, stop-of-stopped}
-use Rattle.admit.proofs.Admitting.{lengths-most, admit-lengths, admit-list, admit-areas, admit-walk, admit-short, admit-fine}
+use Rattle.admit.proofs.Admitting.{lengths-most, admit-price, admit-lengths, admit-list, admit-areas, admit-walk, admit-short, admit-fine}
 use borrow.Author.Needs.{needs}
 use Rattle.admit.proofs.admit.Statement.{statement}
 use Rattle.admit.proofs.admit.Tie as tie
 
-lengths-fit-requires : tie.Need-lengths-fit-requires
-lengths-fit-requires c κs = search needs
+in-range-requires : tie.Need-in-range-requires
+in-range-requires c κs = search needs
 
 stopped-requires : tie.Need-stopped-requires
 stopped-requires c κs = search needs
@@ -27,10 +27,10 @@ stopped-requires c κs = search needs
 returns : tie.Need-returns
 returns c =
     let g = c .before .before .before .before .before .before .args in
-    rw (admit-lengths (g .list .now) (g .version .now) (g .store .now) (g .c) (g .a) (g .b) (sym (c .before .before .lengths-fit .ensures) ∙ not-true _ (c .before .if1 .taken))) (c .stopped .ensures)
+    rw (admit-price (g .price) (g .list .now) (g .version .now) (g .store .now) (g .c) (g .a) (g .b) (sym (c .before .before .in-range .ensures) ∙ not-true _ (c .before .if1 .taken))) (c .stopped .ensures)
 
-list-fits-requires : tie.Need-list-fits-requires
-list-fits-requires c κs = search needs
+lengths-fit-requires : tie.Need-lengths-fit-requires
+lengths-fit-requires c κs = search needs
 
 stopped-requires-2 : tie.Need-stopped-requires-2
 stopped-requires-2 c κs = search needs
@@ -38,11 +38,11 @@ stopped-requires-2 c κs = search needs
 returns-2 : tie.Need-returns-2
 returns-2 c =
     let g = c .before .before .before .before .before .before .before .before .args in
-    let two = sym (c .before .before .before .before .lengths-fit .ensures) ∙ not-false _ (c .before .before .before .if1 .left) in
-    rw (admit-list (g .list .now) (g .version .now) (g .store .now) (g .c) (g .a) (g .b) two (sym (c .before .before .list-fits .ensures) ∙ not-true _ (c .before .if2 .taken))) (c .stopped2 .ensures)
+    let one = sym (c .before .before .before .before .in-range .ensures) ∙ not-false _ (c .before .before .before .if1 .left) in
+    rw (admit-lengths (g .price) (g .list .now) (g .version .now) (g .store .now) (g .c) (g .a) (g .b) one (sym (c .before .before .lengths-fit .ensures) ∙ not-true _ (c .before .if2 .taken))) (c .stopped2 .ensures)
 
-areas-fit-requires : tie.Need-areas-fit-requires
-areas-fit-requires c κs = search needs
+list-fits-requires : tie.Need-list-fits-requires
+list-fits-requires c κs = search needs
 
 stopped-requires-3 : tie.Need-stopped-requires-3
 stopped-requires-3 c κs = search needs
@@ -50,16 +50,30 @@ stopped-requires-3 c κs = search needs
 returns-3 : tie.Need-returns-3
 returns-3 c =
     let g = c .before .before .before .before .before .before .before .before .before .before .args in
-    let two = sym (c .before .before .before .before .before .before .lengths-fit .ensures) ∙ not-false _ (c .before .before .before .before .before .if1 .left) in
-    let three = sym (c .before .before .before .before .list-fits .ensures) ∙ not-false _ (c .before .before .before .if2 .left) in
-    rw (admit-areas (g .list .now) (g .version .now) (g .store .now) (g .c) (g .a) (g .b) two three (sym (c .before .before .areas-fit .ensures) ∙ not-true _ (c .before .if3 .taken))) (c .stopped3 .ensures)
+    let one = sym (c .before .before .before .before .before .before .in-range .ensures) ∙ not-false _ (c .before .before .before .before .before .if1 .left) in
+    let two = sym (c .before .before .before .before .lengths-fit .ensures) ∙ not-false _ (c .before .before .before .if2 .left) in
+    rw (admit-list (g .price) (g .list .now) (g .version .now) (g .store .now) (g .c) (g .a) (g .b) one two (sym (c .before .before .list-fits .ensures) ∙ not-true _ (c .before .if3 .taken))) (c .stopped3 .ensures)
+
+areas-fit-requires : tie.Need-areas-fit-requires
+areas-fit-requires c κs = search needs
+
+stopped-requires-4 : tie.Need-stopped-requires-4
+stopped-requires-4 c κs = search needs
+
+returns-4 : tie.Need-returns-4
+returns-4 c =
+    let g = c .before .before .before .before .before .before .before .before .before .before .before .before .args in
+    let one = sym (c .before .before .before .before .before .before .before .before .in-range .ensures) ∙ not-false _ (c .before .before .before .before .before .before .before .if1 .left) in
+    let two = sym (c .before .before .before .before .before .before .lengths-fit .ensures) ∙ not-false _ (c .before .before .before .before .before .if2 .left) in
+    let three = sym (c .before .before .before .before .list-fits .ensures) ∙ not-false _ (c .before .before .before .if3 .left) in
+    rw (admit-areas (g .price) (g .list .now) (g .version .now) (g .store .now) (g .c) (g .a) (g .b) one two three (sym (c .before .before .areas-fit .ensures) ∙ not-true _ (c .before .if4 .taken))) (c .stopped4 .ensures)
 
 walk-requires : tie.Need-walk-requires
 walk-requires c κs =
-    let g = c .before .before .before .before .before .before .before .before .before .args in
+    let g = c .before .before .before .before .before .before .before .before .before .before .before .args in
     record {
-      list-most = (counted-of-fits (g .list .now) (sym (c .before .before .before .list-fits .ensures) ∙ not-false _ (c .before .before .if2 .left))) .list-most;
-      version-most = lengths-most (g .version .now) (g .store .now) (sym (c .before .before .before .before .before .lengths-fit .ensures) ∙ not-false _ (c .before .before .before .before .if1 .left)) .0;
+      list-most = (counted-of-fits (g .list .now) (sym (c .before .before .before .list-fits .ensures) ∙ not-false _ (c .before .before .if3 .left))) .list-most;
+      version-most = lengths-most (g .version .now) (g .store .now) (sym (c .before .before .before .before .before .lengths-fit .ensures) ∙ not-false _ (c .before .before .before .before .if2 .left)) .0;
     }
 
 enum-known-w : tie.Need-enum-known-w
@@ -68,59 +82,65 @@ enum-known-w c = search needs
 enum-told : tie.Need-enum-told
 enum-told c = search needs
 
-returns-4 : tie.Need-returns-4
-returns-4 c =
-    let g = c .before .before .before .before .before .before .before .before .before .before .before .before .args in
-    let two = sym (c .before .before .before .before .before .before .before .before .lengths-fit .ensures) ∙ not-false _ (c .before .before .before .before .before .before .before .if1 .left) in
-    let three = sym (c .before .before .before .before .before .before .list-fits .ensures) ∙ not-false _ (c .before .before .before .before .before .if2 .left) in
-    let nine = sym (c .before .before .before .before .areas-fit .ensures) ∙ not-false _ (c .before .before .before .if3 .left) in
+returns-5 : tie.Need-returns-5
+returns-5 c =
+    let g = c .before .before .before .before .before .before .before .before .before .before .before .before .before .before .args in
+    let one = sym (c .before .before .before .before .before .before .before .before .before .before .in-range .ensures) ∙ not-false _ (c .before .before .before .before .before .before .before .before .before .if1 .left) in
+    let two = sym (c .before .before .before .before .before .before .before .before .lengths-fit .ensures) ∙ not-false _ (c .before .before .before .before .before .before .before .if2 .left) in
+    let three = sym (c .before .before .before .before .before .before .list-fits .ensures) ∙ not-false _ (c .before .before .before .before .before .if3 .left) in
+    let nine = sym (c .before .before .before .before .areas-fit .ensures) ∙ not-false _ (c .before .before .before .if4 .left) in
     let stop = stop-of-stopped (walkRuling (checks scope.Version (g .version .now) (g .store .now)) (g .list .now)) (recordsOf (g .list .now)) (c .enum-told .given .0 .0) (sym (c .before .before .walk .ensures) ∙ c .enum-told .given .1) in
-    rw (admit-walk (g .list .now) (g .version .now) (g .store .now) (g .c) (g .a) (g .b) two three nine (c .enum-told .given .0 .0) stop) (c .enum-told .given .1)
+    rw (admit-walk (g .price) (g .list .now) (g .version .now) (g .store .now) (g .c) (g .a) (g .b) one two three nine (c .enum-told .given .0 .0) stop) (c .enum-told .given .1)
 
 index-requires : tie.Need-index-requires
 index-requires c κs = search needs
 
-stopped-requires-4 : tie.Need-stopped-requires-4
-stopped-requires-4 c κs = search needs
-
-returns-5 : tie.Need-returns-5
-returns-5 c =
-    let g = c .before .before .before .before .before .before .before .before .before .before .before .before .before .before .before .before .args in
-    let two = sym (c .before .before .before .before .before .before .before .before .before .before .before .before .lengths-fit .ensures) ∙ not-false _ (c .before .before .before .before .before .before .before .before .before .before .before .if1 .left) in
-    let three = sym (c .before .before .before .before .before .before .before .before .before .before .list-fits .ensures) ∙ not-false _ (c .before .before .before .before .before .before .before .before .before .if2 .left) in
-    let nine = sym (c .before .before .before .before .before .before .before .before .areas-fit .ensures) ∙ not-false _ (c .before .before .before .before .before .before .before .if3 .left) in
-    let through = fine-of-through (walkRuling (checks scope.Version (g .version .now) (g .store .now)) (g .list .now)) (recordsOf (g .list .now)) (c .before .before .before .before .w .given .0 .0) (sym (c .before .before .before .before .before .before .walk .ensures) ∙ c .before .before .before .before .w .given .1) in
-    let differ : whole (recordsOf (g .list .now)) ≡ length (g .version .now) → ⊥ = λ q. c .before .if4 .taken (c .before .before .index .ensures .0 ∙ ap (λ (t : Totals). t .whole) (through .1) ∙ q) in
-    rw (admit-short (g .list .now) (g .version .now) (g .store .now) (g .c) (g .a) (g .b) two three nine (through .0) differ) (c .stopped4 .ensures ∙ ap (λ (t : Totals). Stopped (refuse Sizes (t .entries))) (through .1))
+stopped-requires-5 : tie.Need-stopped-requires-5
+stopped-requires-5 c κs = search needs
 
 returns-6 : tie.Need-returns-6
 returns-6 c =
-    let g = c .before .before .before .before .before .before .before .before .before .before .before .before .before .before .before .args in
-    let two = sym (c .before .before .before .before .before .before .before .before .before .before .before .lengths-fit .ensures) ∙ not-false _ (c .before .before .before .before .before .before .before .before .before .before .if1 .left) in
-    let three = sym (c .before .before .before .before .before .before .before .before .before .list-fits .ensures) ∙ not-false _ (c .before .before .before .before .before .before .before .before .if2 .left) in
-    let nine = sym (c .before .before .before .before .before .before .before .areas-fit .ensures) ∙ not-false _ (c .before .before .before .before .before .before .if3 .left) in
+    let g = c .before .before .before .before .before .before .before .before .before .before .before .before .before .before .before .before .before .before .args in
+    let one = sym (c .before .before .before .before .before .before .before .before .before .before .before .before .before .before .in-range .ensures) ∙ not-false _ (c .before .before .before .before .before .before .before .before .before .before .before .before .before .if1 .left) in
+    let two = sym (c .before .before .before .before .before .before .before .before .before .before .before .before .lengths-fit .ensures) ∙ not-false _ (c .before .before .before .before .before .before .before .before .before .before .before .if2 .left) in
+    let three = sym (c .before .before .before .before .before .before .before .before .before .before .list-fits .ensures) ∙ not-false _ (c .before .before .before .before .before .before .before .before .before .if3 .left) in
+    let nine = sym (c .before .before .before .before .before .before .before .before .areas-fit .ensures) ∙ not-false _ (c .before .before .before .before .before .before .before .if4 .left) in
+    let through = fine-of-through (walkRuling (checks scope.Version (g .version .now) (g .store .now)) (g .list .now)) (recordsOf (g .list .now)) (c .before .before .before .before .w .given .0 .0) (sym (c .before .before .before .before .before .before .walk .ensures) ∙ c .before .before .before .before .w .given .1) in
+    let differ : whole (recordsOf (g .list .now)) ≡ length (g .version .now) → ⊥ = λ q. c .before .if5 .taken (c .before .before .index .ensures .0 ∙ ap (λ (t : Totals). t .whole) (through .1) ∙ q) in
+    rw (admit-short (g .price) (g .list .now) (g .version .now) (g .store .now) (g .c) (g .a) (g .b) one two three nine (through .0) differ) (c .stopped5 .ensures ∙ ap (λ (t : Totals). Stopped (refuse Sizes (t .entries))) (through .1))
+
+returns-7 : tie.Need-returns-7
+returns-7 c =
+    let g = c .before .before .before .before .before .before .before .before .before .before .before .before .before .before .before .before .before .args in
+    let one = sym (c .before .before .before .before .before .before .before .before .before .before .before .before .before .in-range .ensures) ∙ not-false _ (c .before .before .before .before .before .before .before .before .before .before .before .before .if1 .left) in
+    let two = sym (c .before .before .before .before .before .before .before .before .before .before .before .lengths-fit .ensures) ∙ not-false _ (c .before .before .before .before .before .before .before .before .before .before .if2 .left) in
+    let three = sym (c .before .before .before .before .before .before .before .before .before .list-fits .ensures) ∙ not-false _ (c .before .before .before .before .before .before .before .before .if3 .left) in
+    let nine = sym (c .before .before .before .before .before .before .before .areas-fit .ensures) ∙ not-false _ (c .before .before .before .before .before .before .if4 .left) in
     let through = fine-of-through (walkRuling (checks scope.Version (g .version .now) (g .store .now)) (g .list .now)) (recordsOf (g .list .now)) (c .before .before .before .w .given .0 .0) (sym (c .before .before .before .before .before .walk .ensures) ∙ c .before .before .before .w .given .1) in
-    let same : whole (recordsOf (g .list .now)) ≡ length (g .version .now) = sym (ap (λ (t : Totals). t .whole) (through .1)) ∙ sym (c .before .index .ensures .0) ∙ c .if4 .left in
-    rw (admit-fine (g .list .now) (g .version .now) (g .store .now) (g .c) (g .a) (g .b) two three nine (through .0) same) (ap Through (through .1))
+    let same : whole (recordsOf (g .list .now)) ≡ length (g .version .now) = sym (ap (λ (t : Totals). t .whole) (through .1)) ∙ sym (c .before .index .ensures .0) ∙ c .if5 .left in
+    rw (admit-fine (g .price) (g .list .now) (g .version .now) (g .store .now) (g .c) (g .a) (g .b) one two three nine (through .0) same) (ap Through (through .1))
 
 pub admit-spec : {M : Type 1} → statement M
 admit-spec =
     tie.close
     (tie.spec
-    lengths-fit-requires
+    in-range-requires
     stopped-requires
     returns
-    list-fits-requires
+    lengths-fit-requires
     stopped-requires-2
     returns-2
-    areas-fit-requires
+    list-fits-requires
     stopped-requires-3
     returns-3
+    areas-fit-requires
+    stopped-requires-4
+    returns-4
     walk-requires
     enum-known-w
     enum-told
-    returns-4
-    index-requires
-    stopped-requires-4
     returns-5
-    returns-6)
+    index-requires
+    stopped-requires-5
+    returns-6
+    returns-7)

@@ -4,31 +4,31 @@ use borrow.Author.Needs.{needs}
 use Rattle.join.proofs.bytes_of.Statement.{statement}
 use Rattle.join.proofs.bytes_of.Tie as tie
 
-enum-known-item : tie.Need-enum-known-item
-enum-known-item c = search needs
+enum-known-record : tie.Need-enum-known-record
+enum-known-record c = search needs
 
 record-bytes-requires : tie.Need-record-bytes-requires
 record-bytes-requires c κs = search needs
 
-enum-known-item-2 : tie.Need-enum-known-item-2
-enum-known-item-2 c = search needs
+enum-known-record-2 : tie.Need-enum-known-record-2
+enum-known-record-2 c = search needs
 
 record-bytes-requires-2 : tie.Need-record-bytes-requires-2
 record-bytes-requires-2 c κs = search needs
 
 returns : tie.Need-returns
-returns c = c .record-bytes .ensures ∙ rw (c .before .before .item .given .1)
+returns c = c .record-bytes .ensures ∙ rw (c .before .before .«record» .given .1)
 
 returns-2 : tie.Need-returns-2
-returns-2 c = c .record-bytes2 .ensures ∙ rw (c .before .before .item2 .given .1)
+returns-2 c = c .record-bytes2 .ensures ∙ rw (c .before .before .record2 .given .1)
 
 pub bytes-of-spec : {M : Type 1} → statement M
 bytes-of-spec =
     tie.close
     (tie.spec
-    enum-known-item
+    enum-known-record
     record-bytes-requires
-    enum-known-item-2
+    enum-known-record-2
     record-bytes-requires-2
     returns
     returns-2)

@@ -11,28 +11,22 @@ use Rattle.walk.specs.declared.Totals.{Totals}
 use Rattle.walk.specs.Checks.{checks, walkRuling}
 use Rattle.walk.specs.Walked.{refusalOf}
 use Rattle.walk.proofs.Telling.{fine-of-through, stop-of-stopped}
-use Rattle.price.proofs.Bounds.{fits-of-at, unfit-of-range, rates-fit}
+use Rattle.price.proofs.Bounds.{rates-fit}
 use Rattle.measure.proofs.Measuring.{measured-price, measured-length, measured-stop, measured-fine}
 use borrow.Author.Needs.{needs}
 use Rattle.measure.proofs.measure.Statement.{statement}
 use Rattle.measure.proofs.measure.Tie as tie
 
-rates-of-requires : tie.Need-rates-of-requires
-rates-of-requires c κs = search needs
-
-enum-known-priced : tie.Need-enum-known-priced
-enum-known-priced c = search needs
-
-enum-told : tie.Need-enum-told
-enum-told c = search needs
+in-range-requires : tie.Need-in-range-requires
+in-range-requires c κs = search needs
 
 refused-requires : tie.Need-refused-requires
 refused-requires c κs = search needs
 
 returns : tie.Need-returns
 returns c =
-    let g = c .before .before .before .before .before .args in
-    c .refused .ensures ∙ sym (measured-price (g .price) (g .list .now) (unfit-of-range (g .price) (sym (c .before .before .before .rates-of .ensures) ∙ c .before .enum-told .given .1)))
+    let g = c .before .before .before .before .args in
+    c .refused .ensures ∙ sym (measured-price (g .price) (g .list .now) (sym (c .before .before .in-range .ensures) ∙ not-true _ (c .before .if1 .taken)))
 
 list-fits-requires : tie.Need-list-fits-requires
 list-fits-requires c κs = search needs
@@ -42,8 +36,8 @@ refused-requires-2 c κs = search needs
 
 returns-2 : tie.Need-returns-2
 returns-2 c =
-    let g = c .before .before .before .before .before .before .before .before .args in
-    c .refused2 .ensures ∙ sym (measured-length (g .price) (g .list .now) ((fits-of-at (g .price) (c .before .before .before .before .priced .given .0 .0) (sym (c .before .before .before .before .before .before .rates-of .ensures) ∙ c .before .before .before .before .priced .given .1)) .0) (sym (c .before .before .list-fits .ensures) ∙ not-true _ (c .before .if1 .taken)))
+    let g = c .before .before .before .before .before .before .args in
+    c .refused2 .ensures ∙ sym (measured-length (g .price) (g .list .now) (sym (c .before .before .before .before .in-range .ensures) ∙ not-false _ (c .before .before .before .if1 .left)) (sym (c .before .before .list-fits .ensures) ∙ not-true _ (c .before .if2 .taken)))
 
 sub-none : tie.Need-sub-none
 sub-none c = search needs
@@ -56,54 +50,53 @@ part-none-end c = search needs
 
 walk-requires : tie.Need-walk-requires
 walk-requires c κs =
-    let g = c .before .before .before .before .before .before .before .before .args in
-    let fits = counted-of-fits (g .list .now) (sym (c .before .before .list-fits .ensures) ∙ not-false _ (c .before .if1 .left)) in
+    let g = c .before .before .before .before .before .before .args in
+    let fits = counted-of-fits (g .list .now) (sym (c .before .before .list-fits .ensures) ∙ not-false _ (c .before .if2 .left)) in
     record { list-most = fits .list-most; version-most = omega arith }
 
 enum-known-walked : tie.Need-enum-known-walked
 enum-known-walked c = search needs
 
-enum-told-2 : tie.Need-enum-told-2
-enum-told-2 c = search needs
+enum-told : tie.Need-enum-told
+enum-told c = search needs
 
 refusal-of-requires : tie.Need-refusal-of-requires
 refusal-of-requires c κs = search needs
 
 returns-3 : tie.Need-returns-3
 returns-3 c =
-    let g = c .before .before .before .before .before .before .before .before .before .before .before .before .args in
-    let stopped = stop-of-stopped (walkRuling (checks scope.Sizes [] []) (g .list .now)) (recordsOf (g .list .now)) (c .before .enum-told2 .given .0 .0) (sym (c .before .before .before .walk .ensures) ∙ c .before .enum-told2 .given .1) in
-    ap Refused (c .refusal-of .ensures ∙ ap refusalOf (c .before .enum-told2 .given .1)) ∙ sym (measured-stop (g .price) (g .list .now) ((fits-of-at (g .price) (c .before .before .before .before .before .before .before .before .priced .given .0 .0) (sym (c .before .before .before .before .before .before .before .before .before .before .rates-of .ensures) ∙ c .before .before .before .before .before .before .before .before .priced .given .1)) .0) (sym (c .before .before .before .before .before .before .list-fits .ensures) ∙ not-false _ (c .before .before .before .before .before .if1 .left)) _ stopped)
+    let g = c .before .before .before .before .before .before .before .before .before .before .args in
+    let stopped = stop-of-stopped (walkRuling (checks scope.Sizes [] []) (g .list .now)) (recordsOf (g .list .now)) (c .before .enum-told .given .0 .0) (sym (c .before .before .before .walk .ensures) ∙ c .before .enum-told .given .1) in
+    ap Refused (c .refusal-of .ensures ∙ ap refusalOf (c .before .enum-told .given .1)) ∙ sym (measured-stop (g .price) (g .list .now) (sym (c .before .before .before .before .before .before .before .before .in-range .ensures) ∙ not-false _ (c .before .before .before .before .before .before .before .if1 .left)) (sym (c .before .before .before .before .before .before .list-fits .ensures) ∙ not-false _ (c .before .before .before .before .before .if2 .left)) _ stopped)
+
+rates-of-requires : tie.Need-rates-of-requires
+rates-of-requires c κs = search needs
 
 cost-of-requires : tie.Need-cost-of-requires
 cost-of-requires c κs =
-    let g = c .before .before .before .before .before .before .before .before .before .before .before .before .args in
-    let through = fine-of-through (walkRuling (checks scope.Sizes [] []) (g .list .now)) (recordsOf (g .list .now)) (c .before .walked .given .0 .0) (sym (c .before .before .before .walk .ensures) ∙ c .before .walked .given .1) in
-    let price = fits-of-at (g .price) (c .before .before .before .before .before .before .before .before .priced .given .0 .0) (sym (c .before .before .before .before .before .before .before .before .before .before .rates-of .ensures) ∙ c .before .before .before .before .before .before .before .before .priced .given .1) in
+    let g = c .before .before .before .before .before .before .before .before .before .before .before .args in
+    let through = fine-of-through (walkRuling (checks scope.Sizes [] []) (g .list .now)) (recordsOf (g .list .now)) (c .before .before .walked .given .0 .0) (sym (c .before .before .before .before .walk .ensures) ∙ c .before .before .walked .given .1) in
     record {
-      rates-fit = rw (price .1) (rates-fit (g .price) (price .0));
-      list-most = (counted-of-fits (g .list .now) (sym (c .before .before .before .before .before .before .list-fits .ensures) ∙ not-false _ (c .before .before .before .before .before .if1 .left))) .list-most;
+      rates-fit = rw (c .rates-of .ensures) (rates-fit (g .price) (sym (c .before .before .before .before .before .before .before .before .before .in-range .ensures) ∙ not-false _ (c .before .before .before .before .before .before .before .before .if1 .left)));
+      list-most = (counted-of-fits (g .list .now) (sym (c .before .before .before .before .before .before .before .list-fits .ensures) ∙ not-false _ (c .before .before .before .before .before .before .if2 .left))) .list-most;
       stored-is = ap (λ (t : Totals). t .stored) (through .1);
     }
 
 returns-4 : tie.Need-returns-4
 returns-4 c =
-    let g = c .before .before .before .before .before .before .before .before .before .before .before .before .before .args in
-    let through = fine-of-through (walkRuling (checks scope.Sizes [] []) (g .list .now)) (recordsOf (g .list .now)) (c .before .before .walked .given .0 .0) (sym (c .before .before .before .before .walk .ensures) ∙ c .before .before .walked .given .1) in
-    let price = fits-of-at (g .price) (c .before .before .before .before .before .before .before .before .before .priced .given .0 .0) (sym (c .before .before .before .before .before .before .before .before .before .before .before .rates-of .ensures) ∙ c .before .before .before .before .before .before .before .before .before .priced .given .1) in
+    let g = c .before .before .before .before .before .before .before .before .before .before .before .before .args in
+    let through = fine-of-through (walkRuling (checks scope.Sizes [] []) (g .list .now)) (recordsOf (g .list .now)) (c .before .before .before .walked .given .0 .0) (sym (c .before .before .before .before .before .walk .ensures) ∙ c .before .before .before .walked .given .1) in
     let n = ap (λ (t : Totals). t .entries) (through .1) in
     let s = ap (λ (t : Totals). t .stored) (through .1) in
     let w = ap (λ (t : Totals). t .whole) (through .1) in
-    let k = rw (price .1) at (c .cost-of .ensures) in
-    cc (measured-fine (g .price) (g .list .now) (price .0) (sym (c .before .before .before .before .before .before .before .list-fits .ensures) ∙ not-false _ (c .before .before .before .before .before .before .if1 .left)) (through .0))
+    let k = rw (c .before .rates-of .ensures) at (c .cost-of .ensures) in
+    cc (measured-fine (g .price) (g .list .now) (sym (c .before .before .before .before .before .before .before .before .before .before .in-range .ensures) ∙ not-false _ (c .before .before .before .before .before .before .before .before .before .if1 .left)) (sym (c .before .before .before .before .before .before .before .before .list-fits .ensures) ∙ not-false _ (c .before .before .before .before .before .before .before .if2 .left)) (through .0))
 
 pub measure-spec : {M : Type 1} → statement M
 measure-spec =
     tie.close
     (tie.spec
-    rates-of-requires
-    enum-known-priced
-    enum-told
+    in-range-requires
     refused-requires
     returns
     list-fits-requires
@@ -114,8 +107,9 @@ measure-spec =
     part-none-end
     walk-requires
     enum-known-walked
-    enum-told-2
+    enum-told
     refusal-of-requires
     returns-3
+    rates-of-requires
     cost-of-requires
     returns-4)

@@ -46,9 +46,9 @@ loop-again : tie.Need-loop-again Inv-loop μ-loop
 loop-again c =
     let l = c .before .before .before .before .before .before .args .list .now in
     let i = c .before .before .before .before .loop .i in
-    let item : c .before .record-of .result ≡ recordOf (rowAt l i) = c .before .record-of .ensures ∙ ap recordOf (c .before .before .row-at .ensures) in
+    let is : c .before .record-of .result ≡ recordOf (rowAt l i) = c .before .record-of .ensures ∙ ap recordOf (c .before .before .row-at .ensures) in
     let next : news (recordsFrom l (length l / 12) i) ≡ news (recordOf (rowAt l i) ∷ []) + news (recordsFrom l (length l / 12) (i + 1)) = ap news (recordsFrom-next l (length l / 12) i (omega arith)) ∙ news-cons (recordOf (rowAt l i)) (recordsFrom l (length l / 12) (i + 1)) in
-    (omega arith, omega (arith, c .before .before .before .before .loop .inv .1, c .one-if-new .ensures .1), omega (arith, c .before .before .before .before .loop .inv .2, c .one-if-new .ensures .0, ap (λ (x : Record). news (x ∷ [])) item, next))
+    (omega arith, omega (arith, c .before .before .before .before .loop .inv .1, c .one-if-new .ensures .1), omega (arith, c .before .before .before .before .loop .inv .2, c .one-if-new .ensures .0, ap (λ (x : Record). news (x ∷ [])) is, next))
 
 returns : tie.Need-returns Inv-loop μ-loop
 returns c =

@@ -35,13 +35,13 @@ part-report-end : tie.Need-part-report-end
 part-report-end c =
     let g = c .before .before .before .before .before .before .before .before .before .before .before .before .before .before .before .before .before .before .before .before .before .before .before .args in
     let roomy = c .before .before .before .before .before .before .before .before .before .before .before .before .before .before .before .before .before .before .before .before .before .before .before .pre in
-    omega (arith, c .before .before .index .ensures .0, list-in-area (g .price) (g .list .now) (g .version .now) (g .store .now) (g .choice .now) (g .area .now) (g .block .now) (g .text .now) roomy (c .before .before .before .before .before .before .before .before .before .before .before .before .partition .ensures) (c .before .before .before .before .answer2 .given .1) (12 * c .before .before .index .result) (ap (λ (k : ℕ). 12 * k) (c .before .before .index .ensures .0)))
+    omega (arith, c .before .before .index .ensures .0, list-in-area (g .price) (g .list .now) (g .version .now) (g .store .now) (g .choice .now) (g .list-area .now) (g .block-area .now) (g .text .now) roomy (c .before .before .before .before .before .before .before .before .before .before .before .before .partition .ensures) (c .before .before .before .before .answer2 .given .1) (12 * c .before .before .index .result) (ap (λ (k : ℕ). 12 * k) (c .before .before .index .ensures .0)))
 
 report-requires : tie.Need-report-requires
 report-requires c κs =
     let g = c .before .before .before .before .before .before .before .before .before .before .before .before .before .before .before .before .before .before .before .before .before .before .before .before .args in
     let roomy = c .before .before .before .before .before .before .before .before .before .before .before .before .before .before .before .before .before .before .before .before .before .before .before .before .pre in
-    text-room (g .price) (g .list .now) (g .version .now) (g .store .now) (g .choice .now) (g .area .now) (g .block .now) (g .text .now) roomy (c .before .before .before .before .before .before .before .before .before .before .before .before .before .partition .ensures) (c .before .before .before .before .before .answer2 .given .1) (12 * c .before .before .before .index .result - 0) (omega (arith, c .before .before .before .index .ensures .0))
+    text-room (g .price) (g .list .now) (g .version .now) (g .store .now) (g .choice .now) (g .list-area .now) (g .block-area .now) (g .text .now) roomy (c .before .before .before .before .before .before .before .before .before .before .before .before .before .partition .ensures) (c .before .before .before .before .before .answer2 .given .1) (12 * c .before .before .before .index .result - 0) (omega (arith, c .before .before .before .index .ensures .0))
 
 same-length : tie.Need-same-length
 same-length c = search needs
@@ -59,7 +59,7 @@ returns : tie.Need-returns
 returns c =
     let g = c .before .before .before .before .before .before .before .before .before .before .before .before .before .before .before .before .before .before .before .before .before .before .before .before .args in
     let roomy = c .before .before .before .before .before .before .before .before .before .before .before .before .before .before .before .before .before .before .before .before .before .before .before .before .pre in
-    rw (stop-of-answer (g .price) (g .list .now) (g .version .now) (g .store .now) (g .choice .now) (g .area .now) (g .block .now) (g .text .now) roomy (c .before .before .before .before .before .before .before .before .before .before .before .before .before .partition .ensures) (c .before .before .before .before .before .answer .given .1)) (c .before .before .refusal .ensures)
+    rw (stop-of-answer (g .price) (g .list .now) (g .version .now) (g .store .now) (g .choice .now) (g .list-area .now) (g .block-area .now) (g .text .now) roomy (c .before .before .before .before .before .before .before .before .before .before .before .before .before .partition .ensures) (c .before .before .before .before .before .answer .given .1)) (c .before .before .refusal .ensures)
 
 same-length-5 : tie.Need-same-length-5
 same-length-5 c = search needs
@@ -77,7 +77,7 @@ returns-2 : tie.Need-returns-2
 returns-2 c =
     let g = c .before .before .before .before .before .before .before .before .before .before .before .before .before .before .before .before .before .before .before .before .before .before .before .before .before .before .before .args in
     let roomy = c .before .before .before .before .before .before .before .before .before .before .before .before .before .before .before .before .before .before .before .before .before .before .before .before .before .before .before .pre in
-    rw (text-listed (g .price) (g .list .now) (g .version .now) (g .store .now) (g .choice .now) (g .area .now) (g .block .now) (g .text .now) roomy (c .before .before .before .before .before .before .before .before .before .before .before .before .before .before .before .before .partition .ensures) (g .y) (c .before .before .before .before .before .before .before .before .answer2 .given .1) (12 * c .before .before .before .before .before .before .index .result - 0) (omega (arith, c .before .before .before .before .before .before .index .ensures .0))) (c .before .before .report .ensures)
+    rw (text-listed (g .price) (g .list .now) (g .version .now) (g .store .now) (g .choice .now) (g .list-area .now) (g .block-area .now) (g .text .now) roomy (c .before .before .before .before .before .before .before .before .before .before .before .before .before .before .before .before .partition .ensures) (g .y) (c .before .before .before .before .before .before .before .before .answer2 .given .1) (12 * c .before .before .before .before .before .before .index .result - 0) (omega (arith, c .before .before .before .before .before .before .index .ensures .0))) (c .before .before .report .ensures)
 
 pub listed-spec : {M : Type 1} → statement M
 listed-spec =

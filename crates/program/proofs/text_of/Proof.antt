@@ -35,7 +35,7 @@ returns : tie.Need-returns
 returns c =
     let g = c .before .before .before .before .before .before .before .before .before .before .before .before .before .before .before .before .before .before .before .before .before .before .before .before .args in
     let roomy = c .before .before .before .before .before .before .before .before .before .before .before .before .before .before .before .before .before .before .before .before .before .before .before .before .pre in
-    rw (stop-of-answer (g .price) (g .list .now) (g .version .now) (g .store .now) (g .choice .now) (g .area .now) (g .block .now) (g .text .now) roomy (c .before .before .before .before .before .before .before .before .before .before .before .before .before .pass .ensures .decided) (c .before .before .before .before .before .answer .given .1)) (c .before .before .refusal .ensures)
+    rw (stop-of-answer (g .price) (g .list .now) (g .version .now) (g .store .now) (g .choice .now) (g .list-area .now) (g .block-area .now) (g .text .now) roomy (c .before .before .before .before .before .before .before .before .before .before .before .before .before .pass .ensures .decided) (c .before .before .before .before .before .answer .given .1)) (c .before .before .refusal .ensures)
 
 same-length-5 : tie.Need-same-length-5
 same-length-5 c = search needs
@@ -53,7 +53,7 @@ returns-2 : tie.Need-returns-2
 returns-2 c =
     let g = c .before .before .before .before .before .before .before .before .before .before .before .before .before .before .before .before .before .before .before .before .before .before .before .before .before .before .before .before .before .before .before .before .before .args in
     let roomy = c .before .before .before .before .before .before .before .before .before .before .before .before .before .before .before .before .before .before .before .before .before .before .before .before .before .before .before .before .before .before .before .before .before .pre in
-    rw (figures-of-answer (g .price) (g .list .now) (g .version .now) (g .store .now) (g .choice .now) (g .area .now) (g .block .now) (g .text .now) roomy (c .before .before .before .before .before .before .before .before .before .before .before .before .before .before .before .before .before .before .before .before .before .before .pass .ensures .decided) (c .before .before .before .before .before .before .before .before .before .before .before .before .before .before .answer2 .given .1)) at (c .before .before .before .before .before .before .before .before .listed .ensures)
+    rw (figures-of-answer (g .price) (g .list .now) (g .version .now) (g .store .now) (g .choice .now) (g .list-area .now) (g .block-area .now) (g .text .now) roomy (c .before .before .before .before .before .before .before .before .before .before .before .before .before .before .before .before .before .before .before .before .before .before .pass .ensures .decided) (c .before .before .before .before .before .before .before .before .before .before .before .before .before .before .answer2 .given .1)) at (c .before .before .before .before .before .before .before .before .listed .ensures)
 
 pub text-of-spec : {M : Type 1} → statement M
 text-of-spec =

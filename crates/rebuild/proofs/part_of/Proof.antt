@@ -5,14 +5,14 @@ use borrow.Author.Needs.{needs}
 use Rattle.rebuild.proofs.part_of.Statement.{statement}
 use Rattle.rebuild.proofs.part_of.Tie as tie
 
-enum-known-item : tie.Need-enum-known-item
-enum-known-item c = search needs
+enum-known-record : tie.Need-enum-known-record
+enum-known-record c = search needs
 
 index-requires : tie.Need-index-requires
 index-requires c κs = search needs
 
 add-to : tie.Need-add-to
-add-to c = let lies = rw (c .before .before .item .given .1) at (c .before .before .before .before .before .before .pre) in omega (arith, lies, c .index .ensures .0)
+add-to c = let lies = rw (c .before .before .«record» .given .1) at (c .before .before .before .before .before .before .pre) in omega (arith, lies, c .index .ensures .0)
 
 sub-result : tie.Need-sub-result
 sub-result c = search needs
@@ -21,10 +21,10 @@ part-result-start : tie.Need-part-result-start
 part-result-start c = search needs
 
 part-result-end : tie.Need-part-result-end
-part-result-end c = let lies = rw (c .before .before .item .given .1) at (c .before .before .before .before .before .before .pre) in omega (arith, lies, c .index .ensures .0)
+part-result-end c = let lies = rw (c .before .before .«record» .given .1) at (c .before .before .before .before .before .before .pre) in omega (arith, lies, c .index .ensures .0)
 
-enum-known-item-2 : tie.Need-enum-known-item-2
-enum-known-item-2 c = search needs
+enum-known-record-2 : tie.Need-enum-known-record-2
+enum-known-record-2 c = search needs
 
 index-requires-2 : tie.Need-index-requires-2
 index-requires-2 c κs = search needs
@@ -42,25 +42,25 @@ part-result-start-2 : tie.Need-part-result-start-2
 part-result-start-2 c = search needs
 
 part-result-end-2 : tie.Need-part-result-end-2
-part-result-end-2 c = let lies = rw (c .before .before .before .item2 .given .1) at (c .before .before .before .before .before .before .before .pre) in omega (arith, lies, c .before .index2 .ensures .0, c .index3 .ensures .0)
+part-result-end-2 c = let lies = rw (c .before .before .before .record2 .given .1) at (c .before .before .before .before .before .before .before .pre) in omega (arith, lies, c .before .index2 .ensures .0, c .index3 .ensures .0)
 
 returns : tie.Need-returns
-returns c = rw (c .before .before .before .item .given .1, ← c .before .index .ensures .0) (rw (add-sub-cancel-left (c .before .before .before .before .before .before .before .args .before) (c .before .index .result)))
+returns c = rw (c .before .before .before .«record» .given .1, ← c .before .index .ensures .0) (rw (add-sub-cancel-left (c .before .before .before .before .before .before .before .args .before) (c .before .index .result)))
 
 returns-2 : tie.Need-returns-2
-returns-2 c = rw (c .before .before .before .before .item2 .given .1, ← c .before .before .index2 .ensures .0, ← c .before .index3 .ensures .0) (rw (add-sub-cancel-left (c .before .before .index2 .result) (c .before .index3 .result)))
+returns-2 c = rw (c .before .before .before .before .record2 .given .1, ← c .before .before .index2 .ensures .0, ← c .before .index3 .ensures .0) (rw (add-sub-cancel-left (c .before .before .index2 .result) (c .before .index3 .result)))
 
 pub part-of-spec : {M : Type 1} → statement M
 part-of-spec =
     tie.close
     (tie.spec
-    enum-known-item
+    enum-known-record
     index-requires
     add-to
     sub-result
     part-result-start
     part-result-end
-    enum-known-item-2
+    enum-known-record-2
     index-requires-2
     index-requires-3
     add-to-2

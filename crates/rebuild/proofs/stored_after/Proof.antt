@@ -4,24 +4,24 @@ use borrow.Author.Needs.{needs}
 use Rattle.rebuild.proofs.stored_after.Statement.{statement}
 use Rattle.rebuild.proofs.stored_after.Tie as tie
 
-enum-known-item : tie.Need-enum-known-item
-enum-known-item c = search needs
+enum-known-record : tie.Need-enum-known-record
+enum-known-record c = search needs
 
 index-requires : tie.Need-index-requires
 index-requires c κs = search needs
 
 add-result : tie.Need-add-result
-add-result c = let most = rw (c .before .before .item .given .1) at (c .before .before .before .before .pre) in omega (arith, most, c .index .ensures .0)
+add-result c = let most = rw (c .before .before .«record» .given .1) at (c .before .before .before .before .pre) in omega (arith, most, c .index .ensures .0)
 
 enum-told : tie.Need-enum-told
 enum-told c = search needs
 
 returns : tie.Need-returns
-returns c = rw (c .before .before .item .given .1) (omega (arith, c .index .ensures .0))
+returns c = rw (c .before .before .«record» .given .1) (omega (arith, c .index .ensures .0))
 
 returns-2 : tie.Need-returns-2
 returns-2 c = rw (c .enum-told .given .1) (omega arith)
 
 pub stored-after-spec : {M : Type 1} → statement M
 stored-after-spec =
-    tie.close (tie.spec enum-known-item index-requires add-result enum-told returns returns-2)
+    tie.close (tie.spec enum-known-record index-requires add-result enum-told returns returns-2)

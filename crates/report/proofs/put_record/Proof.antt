@@ -4,8 +4,8 @@ use borrow.Author.Needs.{needs}
 use Rattle.report.proofs.put_record.Statement.{statement}
 use Rattle.report.proofs.put_record.Tie as tie
 
-enum-known-item : tie.Need-enum-known-item
-enum-known-item c = search needs
+enum-known-record : tie.Need-enum-known-record
+enum-known-record c = search needs
 
 slice-aggregate-put-last : tie.Need-slice-aggregate-put-last
 slice-aggregate-put-last c = search needs
@@ -13,8 +13,8 @@ slice-aggregate-put-last c = search needs
 put-last-requires : tie.Need-put-last-requires
 put-last-requires c κs = search needs
 
-enum-known-item-2 : tie.Need-enum-known-item-2
-enum-known-item-2 c = search needs
+enum-known-record-2 : tie.Need-enum-known-record-2
+enum-known-record-2 c = search needs
 
 put-match-requires : tie.Need-put-match-requires
 put-match-requires c κs = search needs
@@ -23,22 +23,22 @@ same-length : tie.Need-same-length
 same-length c = search needs
 
 returns : tie.Need-returns
-returns c = rw (c .before .before .before .before .before .before .item .given .1) (c .before .before .put-last .ensures .0, omega (arith, c .before .before .put-last .ensures .1))
+returns c = rw (c .before .before .before .before .before .before .«record» .given .1) (c .before .before .put-last .ensures .0, omega (arith, c .before .before .put-last .ensures .1))
 
 same-length-2 : tie.Need-same-length-2
 same-length-2 c = search needs
 
 returns-2 : tie.Need-returns-2
-returns-2 c = rw (c .before .before .before .before .before .item2 .given .1) (c .before .before .put-match .ensures)
+returns-2 c = rw (c .before .before .before .before .before .record2 .given .1) (c .before .before .put-match .ensures)
 
 pub put-record-spec : {M : Type 1} → statement M
 put-record-spec =
     tie.close
     (tie.spec
-    enum-known-item
+    enum-known-record
     slice-aggregate-put-last
     put-last-requires
-    enum-known-item-2
+    enum-known-record-2
     put-match-requires
     same-length
     returns

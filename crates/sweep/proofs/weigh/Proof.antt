@@ -36,7 +36,7 @@ returns c =
     let e = d .storing .ensures .is ∙ ap (λ (n : ℕ). g .rates .byte .0 * n) (d .before .size-of .ensures) in
     let most = d .storing .ensures .most in
     record {
-      is = turned-only (g .rates) (g .item) (g .kept .0) (g .stored .0) (d .storing .result .0) e (ap freedom (c .enum-told .given .1));
+      is = turned-only (g .rates) (g .«record») (g .kept .0) (g .stored .0) (d .storing .result .0) e (ap freedom (c .enum-told .given .1));
       kept-most = omega arith;
       stored-most = omega arith;
     }
@@ -54,7 +54,7 @@ returns-2 c =
     let e = d .storing .ensures .is ∙ ap (λ (n : ℕ). g .rates .byte .0 * n) (d .before .size-of .ensures) in
     let most = d .storing .ensures .most in
     record {
-      is = turned-keep (g .rates) (g .item) (g .kept .0) (g .stored .0) (d .storing .result .0) e (ap freedom (c .before .before .before .before .before .before .before .enum-told2 .given .1)) (omega arith) (omega arith);
+      is = turned-keep (g .rates) (g .«record») (g .kept .0) (g .stored .0) (d .storing .result .0) e (ap freedom (c .before .before .before .before .before .before .before .enum-told2 .given .1)) (omega arith) (omega arith);
       kept-most = omega arith;
       stored-most = omega arith;
     }
@@ -66,7 +66,7 @@ returns-3 c =
     let e = d .storing .ensures .is ∙ ap (λ (n : ℕ). g .rates .byte .0 * n) (d .before .size-of .ensures) in
     let most = d .storing .ensures .most in
     record {
-      is = turned-join (g .rates) (g .item) (g .kept .0) (g .stored .0) (d .storing .result .0) e (ap freedom (c .before .before .before .before .before .before .before .enum-told2 .given .1)) (omega arith) (omega arith);
+      is = turned-join (g .rates) (g .«record») (g .kept .0) (g .stored .0) (d .storing .result .0) e (ap freedom (c .before .before .before .before .before .before .before .enum-told2 .given .1)) (omega arith) (omega arith);
       kept-most = omega arith;
       stored-most = omega arith;
     }
@@ -78,7 +78,7 @@ returns-4 c =
     let e = d .storing .ensures .is ∙ ap (λ (n : ℕ). g .rates .byte .0 * n) (d .before .size-of .ensures) in
     let most = d .storing .ensures .most in
     record {
-      is = turned-store (g .rates) (g .item) (g .kept .0) (g .stored .0) (d .storing .result .0) e (ap freedom (c .before .before .before .enum-told2 .given .1)) (omega arith);
+      is = turned-store (g .rates) (g .«record») (g .kept .0) (g .stored .0) (d .storing .result .0) e (ap freedom (c .before .before .before .enum-told2 .given .1)) (omega arith);
       kept-most = omega arith;
       stored-most = omega arith;
     }

@@ -19,18 +19,18 @@ use Rattle.writer.proofs.finish.Tie as tie
 write-list-requires : tie.Need-write-list-requires
 write-list-requires c κs =
     let g = c .before .before .before .before .before .before .args in
-    list-ready (g .list .now) (g .choice .now) (g .version .now) (g .area .now) (g .block .now) (c .before .before .before .before .before .before .pre .writable)
+    list-ready (g .list .now) (g .choice .now) (g .version .now) (g .list-area .now) (g .block-area .now) (c .before .before .before .before .before .before .pre .writable)
 
 write-block-requires : tie.Need-write-block-requires
 write-block-requires c κs =
     let g = c .before .before .before .before .before .before .before .before .before .before .args in
-    block-ready (g .list .now) (g .choice .now) (g .version .now) (g .area .now) (g .block .now) (c .before .before .before .before .before .before .before .before .before .before .pre .writable)
+    block-ready (g .list .now) (g .choice .now) (g .version .now) (g .list-area .now) (g .block-area .now) (c .before .before .before .before .before .before .before .before .before .before .pre .writable)
 
 cast-stored : tie.Need-cast-stored
 cast-stored c =
     let g = c .before .before .before .before .before .before .before .before .before .before .before .before .before .args in
     let w = c .before .before .before .before .before .before .before .before .before .before .before .before .before .pre .writable in
-    omega (arith, c .before .before .write-block .ensures .length-is, block-most (g .list .now) (g .choice .now) (g .version .now) (g .area .now) (g .block .now) w, w .version-most)
+    omega (arith, c .before .before .write-block .ensures .length-is, block-most (g .list .now) (g .choice .now) (g .version .now) (g .list-area .now) (g .block-area .now) w, w .version-most)
 
 sub-cost-of : tie.Need-sub-cost-of
 sub-cost-of c = search needs
@@ -41,7 +41,7 @@ part-cost-of-start c = search needs
 part-cost-of-end : tie.Need-part-cost-of-end
 part-cost-of-end c =
     let g = c .before .before .before .before .before .before .before .before .before .before .before .before .before .before .args in
-    omega (arith, c .before .before .before .before .before .before .before .write-list .ensures .length-is, ap length (c .before .before .before .before .before .before .before .write-list .ensures .area-after), front-room (encode (listIn (g .list .now) (g .choice .now))) (g .area .now))
+    omega (arith, c .before .before .before .before .before .before .before .write-list .ensures .length-is, ap length (c .before .before .before .before .before .before .before .write-list .ensures .area-after), front-room (encode (listIn (g .list .now) (g .choice .now))) (g .list-area .now))
 
 cost-of-requires : tie.Need-cost-of-requires
 cost-of-requires c κs =
@@ -49,18 +49,18 @@ cost-of-requires c κs =
     let w = c .before .before .before .before .before .before .before .before .before .before .before .before .before .before .before .pre .writable in
     let l = listIn (g .list .now) (g .choice .now) in
     let n : c .before .before .before .before .before .before .before .before .write-list .result - 0 ≡ length (encode l) = omega (arith, c .before .before .before .before .before .before .before .before .write-list .ensures .length-is) in
-    let is = ap (take (c .before .before .before .before .before .before .before .before .write-list .result - 0)) (c .before .before .before .before .before .before .before .before .write-list .ensures .area-after) ∙ front (c .before .before .before .before .before .before .before .before .write-list .result - 0) (encode l) (g .area .now) n in
+    let is = ap (take (c .before .before .before .before .before .before .before .before .write-list .result - 0)) (c .before .before .before .before .before .before .before .before .write-list .ensures .area-after) ∙ front (c .before .before .before .before .before .before .before .before .write-list .result - 0) (encode l) (g .list-area .now) n in
     record {
       rates-fit = c .before .before .before .before .before .before .before .before .before .before .before .before .before .before .before .pre .rates-fit;
-      list-most = rw is (omega (arith, length-encode l, entries-most (g .list .now) (g .choice .now) (g .version .now) (g .area .now) (g .block .now) w, w .list-most));
-      stored-is = c .before .before .before .before .write-block .ensures .length-is ∙ block-length (g .list .now) (g .choice .now) (g .version .now) (g .area .now) (g .block .now) w ∙ ap stored (sym (ap recordsOf is ∙ records-encode l));
+      list-most = rw is (omega (arith, length-encode l, entries-most (g .list .now) (g .choice .now) (g .version .now) (g .list-area .now) (g .block-area .now) w, w .list-most));
+      stored-is = c .before .before .before .before .write-block .ensures .length-is ∙ block-length (g .list .now) (g .choice .now) (g .version .now) (g .list-area .now) (g .block-area .now) w ∙ ap stored (sym (ap recordsOf is ∙ records-encode l));
     }
 
 cast-t19 : tie.Need-cast-t19
 cast-t19 c =
     let g = c .before .before .before .before .before .before .before .before .before .before .before .before .before .before .before .before .args in
     let w = c .before .before .before .before .before .before .before .before .before .before .before .before .before .before .before .before .pre .writable in
-    omega (arith, c .before .before .before .before .before .before .before .before .before .write-list .ensures .length-is, length-encode (listIn (g .list .now) (g .choice .now)), entries-most (g .list .now) (g .choice .now) (g .version .now) (g .area .now) (g .block .now) w, w .list-most)
+    omega (arith, c .before .before .before .before .before .before .before .before .before .write-list .ensures .length-is, length-encode (listIn (g .list .now) (g .choice .now)), entries-most (g .list .now) (g .choice .now) (g .version .now) (g .list-area .now) (g .block-area .now) w, w .list-most)
 
 same-length : tie.Need-same-length
 same-length c = search needs
@@ -73,9 +73,9 @@ returns c =
     let g = c .before .before .before .before .before .before .before .before .before .before .before .before .before .before .before .before .args in
     let l = listIn (g .list .now) (g .choice .now) in
     let n : c .before .before .before .before .before .before .before .before .before .write-list .result - 0 ≡ length (encode l) = omega (arith, c .before .before .before .before .before .before .before .before .before .write-list .ensures .length-is) in
-    let is = ap (take (c .before .before .before .before .before .before .before .before .before .write-list .result - 0)) (c .before .before .before .before .before .before .before .before .before .write-list .ensures .area-after) ∙ front (c .before .before .before .before .before .before .before .before .before .write-list .result - 0) (encode l) (g .area .now) n in
+    let is = ap (take (c .before .before .before .before .before .before .before .before .before .write-list .result - 0)) (c .before .before .before .before .before .before .before .before .before .write-list .ensures .area-after) ∙ front (c .before .before .before .before .before .before .before .before .before .write-list .result - 0) (encode l) (g .list-area .now) n in
     let entries-is : c .before .before .before .before .before .before .before .before .before .write-list .result / 12 ≡ length l = omega (arith, c .before .before .before .before .before .before .before .before .before .write-list .ensures .length-is, length-encode l) in
-    let stored-is : c .before .before .before .before .before .write-block .result ≡ stored l = c .before .before .before .before .before .write-block .ensures .length-is ∙ block-length (g .list .now) (g .choice .now) (g .version .now) (g .area .now) (g .block .now) (c .before .before .before .before .before .before .before .before .before .before .before .before .before .before .before .before .pre .writable) in
+    let stored-is : c .before .before .before .before .before .write-block .result ≡ stored l = c .before .before .before .before .before .write-block .ensures .length-is ∙ block-length (g .list .now) (g .choice .now) (g .version .now) (g .list-area .now) (g .block-area .now) (c .before .before .before .before .before .before .before .before .before .before .before .before .before .before .before .before .pre .writable) in
     let cost-is : c .cost-of .result .0 ≡ cost (g .rates) l = c .cost-of .ensures ∙ ap (cost (g .rates)) (ap recordsOf is ∙ records-encode l) in
     record {
       answered = rw (cost-is, entries-is, stored-is);

@@ -20,7 +20,7 @@ abbrev μ-loop : tie.MeasureT-loop
 loop-holds : tie.Need-loop-holds Inv-loop μ-loop
 loop-holds c =
     let g = c .before .before .before .args in
-    (omega arith, listing-start (g .list .now) (g .choice .now) (g .area .now) (c .before .before .before .pre))
+    (omega arith, listing-start (g .list .now) (g .choice .now) (g .list-area .now) (c .before .before .before .pre))
 
 row-at-requires : tie.Need-row-at-requires Inv-loop μ-loop
 row-at-requires c κs = search needs
@@ -40,7 +40,7 @@ emit-requires c κs =
     let l = c .before .before .before .before .before .before .loop in
     let n = length (g .list .now) / 12 in
     let is : c .before .chosen .result ≡ chosenRecord (bitAt (g .choice .now) (l .i)) (recordOf (rowAt (g .list .now) (l .i))) = c .before .chosen .ensures ∙ ap (chosenRecord (bitAt (g .choice .now) (l .i))) (c .before .before .before .record-of .ensures ∙ ap recordOf (c .before .before .before .before .row-at .ensures)) in
-    (listing-room (g .list .now) (g .choice .now) (g .area .now) (c .before .before .before .before .before .before .before .before .before .before .pre) (l .area) n (l .i) (l .out) (l .last) (l .inv .1) (c .before .chosen .result) is (omega arith), omega (arith, listing-size (g .list .now) (g .choice .now) (g .area .now) (c .before .before .before .before .before .before .before .before .before .before .pre) (l .area) n (l .i) (l .out) (l .last) (l .inv .1) (c .before .chosen .result) is (omega arith)))
+    (listing-room (g .list .now) (g .choice .now) (g .list-area .now) (c .before .before .before .before .before .before .before .before .before .before .pre) (l .list-area) n (l .i) (l .out) (l .last) (l .inv .1) (c .before .chosen .result) is (omega arith), omega (arith, listing-size (g .list .now) (g .choice .now) (g .list-area .now) (c .before .before .before .before .before .before .before .before .before .before .pre) (l .list-area) n (l .i) (l .out) (l .last) (l .inv .1) (c .before .chosen .result) is (omega arith)))
 
 add-i : tie.Need-add-i Inv-loop μ-loop
 add-i c = search needs
@@ -54,14 +54,14 @@ loop-again c =
     let l = c .before .before .before .before .before .before .before .before .before .loop in
     let n = length (g .list .now) / 12 in
     let is : c .before .before .before .before .chosen .result ≡ chosenRecord (bitAt (g .choice .now) (l .i)) (recordOf (rowAt (g .list .now) (l .i))) = c .before .before .before .before .chosen .ensures ∙ ap (chosenRecord (bitAt (g .choice .now) (l .i))) (c .before .before .before .before .before .before .record-of .ensures ∙ ap recordOf (c .before .before .before .before .before .before .before .row-at .ensures)) in
-    (omega arith, listing-next (g .list .now) (g .choice .now) (g .area .now) (c .before .before .before .before .before .before .before .before .before .before .before .before .before .pre) (l .area) n (l .i) (l .out) (l .last) (l .inv .1) (c .before .before .before .before .chosen .result) is (omega arith) _ _ _ (c .before .before .emit .ensures .area-after) (c .before .before .emit .ensures .out-is) (c .before .before .emit .ensures .last-is))
+    (omega arith, listing-next (g .list .now) (g .choice .now) (g .list-area .now) (c .before .before .before .before .before .before .before .before .before .before .before .before .before .pre) (l .list-area) n (l .i) (l .out) (l .last) (l .inv .1) (c .before .before .before .before .chosen .result) is (omega arith) _ _ _ (c .before .before .emit .ensures .area-after) (c .before .before .emit .ensures .out-is) (c .before .before .emit .ensures .last-is))
 
 flush-requires : tie.Need-flush-requires Inv-loop μ-loop
 flush-requires c κs =
     let g = c .before .before .before .before .before .before .args in
     let l = c .before .before .loop in
     let n = length (g .list .now) / 12 in
-    listing-last (g .list .now) (g .choice .now) (g .area .now) (c .before .before .before .before .before .before .pre) (l .area) n (l .i) (l .out) (l .last) (l .inv .1) (omega arith)
+    listing-last (g .list .now) (g .choice .now) (g .list-area .now) (c .before .before .before .before .before .before .pre) (l .list-area) n (l .i) (l .out) (l .last) (l .inv .1) (omega arith)
 
 same-length : tie.Need-same-length Inv-loop μ-loop
 same-length c = omega (arith, c .before .before .before .before .before .loop .inv .1 .filling .same)
@@ -71,7 +71,7 @@ returns c =
     let g = c .before .before .before .before .before .before .before .before .before .args in
     let l = c .before .before .before .before .before .loop in
     let n = length (g .list .now) / 12 in
-    listing-end (g .list .now) (g .choice .now) (g .area .now) (c .before .before .before .before .before .before .before .before .before .pre) (l .area) n (l .i) (l .out) (l .last) (l .inv .1) (omega arith) _ _ (c .before .before .flush .ensures .1) (c .before .before .flush .ensures .0)
+    listing-end (g .list .now) (g .choice .now) (g .list-area .now) (c .before .before .before .before .before .before .before .before .before .pre) (l .list-area) n (l .i) (l .out) (l .last) (l .inv .1) (omega arith) _ _ (c .before .before .flush .ensures .1) (c .before .before .flush .ensures .0)
 
 pub write-list-spec : {M : Type 1} → statement M
 write-list-spec =
