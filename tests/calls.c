@@ -11,7 +11,7 @@
 
 #include "controller.h"
 
-#define CASES 269
+#define CASES 204
 #define FILL 0xA5
 #define AREA 256
 

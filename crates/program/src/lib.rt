@@ -1,4 +1,4 @@
-// The program `partition`: its text for what was read of the files, and the run, which reads the files price, items, version and store and writes the text.
+// The text of the program `partition`, for what was read of the files price, items, version and store.
 //
 // The first bad file, in that order, is named, and nothing else is written. Reading and writing are in the crate `console`.
 ghost use mathlib.Core.Path.{_≡_};
@@ -112,7 +112,7 @@ fn price_of(price: &[u8], p: Read) -> PriceFile
 }
 
 // The text of a run, and its length, by what was read of price (p), items (l), version (v) and store (s) into their buffers.
-fn text_of_run(
+pub fn text_of_run(
     price: &[u8],
     items: &[u8],
     version: &[u8],
@@ -143,19 +143,4 @@ fn text_of_run(
     let j = v.bytes;
     let k = s.bytes;
     text_of_held(held, &items[..i], &version[..j], &store[..k], text)
-}
-
-// The whole program, in the folder where it is run.
-pub fn run() {
-    let mut price = io::large_buffer();
-    let mut items = io::large_buffer();
-    let mut version = io::large_buffer();
-    let mut store = io::large_buffer();
-    let mut text = console::text_area();
-    let p = console::read_file(b"price", &mut price);
-    let l = console::read_file(b"items", &mut items);
-    let v = console::read_file(b"version", &mut version);
-    let s = console::read_file(b"store", &mut store);
-    let n = text_of_run(&price, &items, &version, &store, p, l, v, s, &mut text);
-    console::write(&text, n);
 }

@@ -1,9 +1,9 @@
--- `program::run` meets its contract: the text ends within its area. Assumes nothing.
+-- The program `partition`: the text ends within its area. Assumes nothing.
 use native.Mathlib.Omega.{arith}
 use Rattle.report.proofs.Composing.{written-within}
 use borrow.Author.Needs.{needs}
-use Rattle.program.proofs.run.Statement.{statement}
-use Rattle.program.proofs.run.Tie as tie
+use Rattle.partition.proofs.main.Statement.{statement}
+use Rattle.partition.proofs.main.Tie as tie
 
 large-buffer-requires : tie.Need-large-buffer-requires
 large-buffer-requires c κs = search needs
@@ -83,8 +83,8 @@ write-requires c κs = written-within (c .before .before .text-of-run .ensures) 
 returns : tie.Need-returns
 returns c = search needs
 
-pub run-spec : {M : Type 1} → statement M
-run-spec =
+pub main-spec : {M : Type 1} → statement M
+main-spec =
     tie.close
     (tie.spec
     large-buffer-requires
