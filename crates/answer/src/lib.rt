@@ -1,8 +1,10 @@
-// The answer area of a C call: the numbers of an answer as 32 bytes, written over its front.
+// The answer area of a C call: the numbers of an answer, written over its first 32 bytes.
 ghost use mathlib.Core.Path.{_≡_};
-ghost use Prim.Native.Nat.{_≤_};
+ghost use Prim.Native.Nat.{_+_, _≤_};
 ghost use lib.ListN.{length};
-ghost use Rattle.answer.specs.Layout.{toldOf, layout, given};
+ghost use Rattle.format.specs.Record.{word};
+ghost use Rattle.area.specs.Area.{pasted};
+ghost use Rattle.answer.specs.Layout.{toldOf, given};
 use format::Answer;
 
 // The numbers of an answer, in the order of the answer area.
@@ -45,46 +47,18 @@ fn tell(a: Answer) -> Told
     }
 }
 
-// The 32 bytes of an answer, each number lowest byte first.
-fn bytes_of(t: Told) -> [u8; 32]
-    ensures { λ r. ⌜ r ≡ layout t ⌝ }
+// Writes a number over the 4 bytes of an area from `at` on, lowest byte first.
+fn put_word(area: &mut [u8], at: usize, x: u32)
+    requires { ⌜ at + 4 ≤ length (now area) ⌝ }
+    ensures { λ _. ⌜ now (area .exit) ≡ pasted at (word x) (now (area .entry)) ⌝ }
 {
-    let low = t.cost % 4294967296;
-    let high = t.cost / 4294967296;
-    [
-        (t.number % 256) as u8,
-        (t.number / 256 % 256) as u8,
-        (t.number / 65536 % 256) as u8,
-        (t.number / 16777216) as u8,
-        (t.place % 256) as u8,
-        (t.place / 256 % 256) as u8,
-        (t.place / 65536 % 256) as u8,
-        (t.place / 16777216) as u8,
-        (low % 256) as u8,
-        (low / 256 % 256) as u8,
-        (low / 65536 % 256) as u8,
-        (low / 16777216) as u8,
-        (high % 256) as u8,
-        (high / 256 % 256) as u8,
-        (high / 65536 % 256) as u8,
-        (high / 16777216) as u8,
-        (t.entries % 256) as u8,
-        (t.entries / 256 % 256) as u8,
-        (t.entries / 65536 % 256) as u8,
-        (t.entries / 16777216) as u8,
-        (t.stored % 256) as u8,
-        (t.stored / 256 % 256) as u8,
-        (t.stored / 65536 % 256) as u8,
-        (t.stored / 16777216) as u8,
-        (t.looks % 256) as u8,
-        (t.looks / 256 % 256) as u8,
-        (t.looks / 65536 % 256) as u8,
-        (t.looks / 16777216) as u8,
-        (t.whole % 256) as u8,
-        (t.whole / 256 % 256) as u8,
-        (t.whole / 65536 % 256) as u8,
-        (t.whole / 16777216) as u8,
-    ]
+    let b = [
+        (x % 256) as u8,
+        (x / 256 % 256) as u8,
+        (x / 65536 % 256) as u8,
+        (x / 16777216) as u8,
+    ];
+    area::put(area, at, &b);
 }
 
 // Writes an answer over the front of an answer area, and returns its number.
@@ -93,7 +67,13 @@ pub fn give(a: Answer, area: &mut [u8]) -> u32
     ensures { λ r. ⌜ (r ≡ toldOf a .number) × (now (area .exit) ≡ given a (now (area .entry))) ⌝ }
 {
     let t = tell(a);
-    let b = bytes_of(t);
-    bytes::copy(&b, area);
+    put_word(area, 0, t.number);
+    put_word(area, 4, t.place);
+    put_word(area, 8, (t.cost % 4294967296) as u32);
+    put_word(area, 12, (t.cost / 4294967296) as u32);
+    put_word(area, 16, t.entries);
+    put_word(area, 20, t.stored);
+    put_word(area, 24, t.looks);
+    put_word(area, 28, t.whole);
     t.number
 }
