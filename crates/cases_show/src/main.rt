@@ -20,7 +20,7 @@ fn say(text: &[u8]) {
 // One case, beside a store.
 fn shown<'a>(list: &[u8], block: &'a [u8], store: &'a [u8], k: u32) {
     say(b" [");
-    say(rebuild::show(list, block, store, k));
+    say(show::show(list, block, store, k));
     say(b"]\n");
 }
 

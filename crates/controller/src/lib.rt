@@ -4,7 +4,8 @@
 ghost use mathlib.Core.Path.{_≡_};
 ghost use Rattle.area.specs.Area.{areas};
 ghost use Rattle.measure.specs.Measure.{measured};
-ghost use Rattle.rebuild.specs.Rebuild.{checked, rebuildAnswer, rebuildArea};
+ghost use Rattle.show.specs.Check.{checked};
+ghost use Rattle.rebuild.specs.Rebuild.{rebuildAnswer, rebuildArea};
 ghost use Rattle.answer.specs.Layout.{Answered, lent};
 ghost use Rattle.controller.specs.Calls.{PartitionGiven, PassGiven};
 use price::Price;
@@ -110,5 +111,5 @@ pub extern "C" fn check(list: &[u8], block: &[u8], store: &[u8], k: u32, answer:
     if answer.len() < 32 {
         return 9;
     }
-    answer::give(rebuild::check(list, block, store, k), answer)
+    answer::give(show::check(list, block, store, k), answer)
 }

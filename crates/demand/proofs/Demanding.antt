@@ -11,7 +11,7 @@ use Rattle.format.specs.declared.Figures.{Figures}
 use Rattle.format.specs.declared.Answer.{Answer}
 use Rattle.format.specs.declared.Answer.the-variants.{Accepted}
 use Rattle.format.specs.declared.Ruling.the-variants.{Fine}
-use Rattle.format.specs.Refusal.{Accepts, figuresIn}
+use Rattle.format.specs.Refusal.{Accepts, lengthOnly, figuresIn}
 use Rattle.format.specs.Record.{recordsOf, encode}
 use Rattle.format.specs.Meaning.{whole, blockOf, rebuilt}
 use Rattle.format.proofs.Encoding.{records-encode}
@@ -24,7 +24,7 @@ use Rattle.admit.specs.Admit.{findings, partitionRuling, LongEnough}
 use Rattle.admit.proofs.Admitting.{Sound, sound-of-fine, findings-of-long}
 use Rattle.writer.specs.Decide.{figures, laid}
 use Rattle.writer.proofs.Deciding.{decided-answer, decided-areas, list-handed-on, block-handed-on, block-within}
-use Rattle.rebuild.specs.Rebuild.{rebuildRuling, lengthOnly, Rebuilt}
+use Rattle.rebuild.specs.Rebuild.{rebuildRuling, Rebuilt}
 use Rattle.call_partition.specs.Partition.{leastOf, Partitioned}
 use Rattle.linear.proofs.Theorems.{PassHolds, pass-holds}
 use Rattle.call_pass.specs.Pass.{passChoiceOf, passLooksOf}

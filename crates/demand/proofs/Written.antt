@@ -28,7 +28,8 @@ use Rattle.choice.proofs.Lists.{length-list, well-formed-list}
 use Rattle.admit.specs.Admit.{partitionRuling, LongEnough}
 use Rattle.admit.proofs.Admitting.{Sound, fine-of-written}
 use Rattle.rebuild.specs.Rebuild.{rebuildRuling}
-use Rattle.rebuild.proofs.Accepting.{inputs-written, rebuild-fine}
+use Rattle.show.proofs.Accepting.{inputs-written}
+use Rattle.rebuild.proofs.Accepting.{rebuild-fine}
 use Rattle.call_partition.specs.Partition.{leastOf}
 
 -- of any choice

@@ -9,7 +9,7 @@ use mathlib.Core.List.{List}
 use lib.ListN.{length, take}
 use Rattle.format.specs.declared.Answer.{Answer}
 use Rattle.format.specs.declared.Ruling.the-variants.{Fine}
-use Rattle.format.specs.Refusal.{Accepts, figuresIn}
+use Rattle.format.specs.Refusal.{Accepts, lengthOnly, figuresIn}
 use Rattle.format.specs.Record.{recordsOf}
 use Rattle.price.specs.declared.Price.{Price}
 use Rattle.price.specs.Price.{ratesOf, cost}
@@ -17,7 +17,7 @@ use Rattle.area.specs.Area.{over, Areas}
 use Rattle.choice.specs.Choice.{Bit, listOf, IsLeast, keepAll}
 use Rattle.admit.specs.Admit.{findings, LongEnough}
 use Rattle.writer.specs.Decide.{figures, laid}
-use Rattle.rebuild.specs.Rebuild.{lengthOnly, Rebuilt}
+use Rattle.rebuild.specs.Rebuild.{Rebuilt}
 use Rattle.call_partition.specs.Partition.{Partitioned}
 use Rattle.call_pass.specs.Pass.{passChoiceOf, passLooksOf, PassMade}
 use Rattle.demand.specs.declared.Answers.{Answers}

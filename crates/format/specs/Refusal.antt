@@ -45,6 +45,10 @@ abbrev pub answer : Ruling → Figures → Answer
 answer Fine x = Accepted x
 answer (Stop r) x = Refused r
 
+-- figures that give a whole length alone
+abbrev pub lengthOnly : ℕ → Figures
+lengthOnly n = record { cost = 0; entries = 0; stored = 0; looks = 0; whole = n }
+
 -- the call is accepted
 abbrev pub Accepts : Answer → Type 0
 Accepts (Accepted x) = Unit {0}
@@ -53,7 +57,7 @@ Accepts (Refused r) = ⊥
 -- the figures of an answer, all 0 where the call is refused
 abbrev pub figuresIn : Answer → Figures
 figuresIn (Accepted x) = x
-figuresIn (Refused r) = record { cost = 0; entries = 0; stored = 0; looks = 0; whole = 0 }
+figuresIn (Refused r) = lengthOnly 0
 
 -- what a call leaves of its areas: where it is refused, what they held
 abbrev pub unlessRefused : {A : Type 0} → Ruling → A → A → A

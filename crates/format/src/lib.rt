@@ -5,7 +5,7 @@
 ghost use mathlib.Core.Path.{_≡_};
 ghost use Prim.Native.Nat.{_+_, _*_, _≤_, _<_};
 ghost use lib.ListN.{length};
-ghost use Rattle.format.specs.Refusal.{number, refuse, figuresIn};
+ghost use Rattle.format.specs.Refusal.{number, refuse, lengthOnly, figuresIn};
 ghost use Rattle.format.specs.Record.{wordAt, rowAt, recordOf, wellFormed, listFits};
 
 // What is at fault, in the order of the numbers 1 to 11 (`number`).
@@ -89,6 +89,19 @@ pub fn refused(fault: Fault) -> Answer
     ensures { λ r. ⌜ r ≡ Answer.Refused (refuse fault 0) ⌝ }
 {
     Answer::Refused(Refusal { fault, place: 0 })
+}
+
+// The answer of an accepted call that gives a whole length and no other figure; 0 where it gives none.
+pub fn length_only(whole: u32) -> Answer
+    ensures { λ r. ⌜ r ≡ Answer.Accepted (lengthOnly whole) ⌝ }
+{
+    Answer::Accepted(Figures {
+        cost: 0,
+        entries: 0,
+        stored: 0,
+        looks: 0,
+        whole,
+    })
 }
 
 // The figures of an answer, all 0 where the call is refused.

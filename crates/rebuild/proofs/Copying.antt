@@ -17,12 +17,7 @@ use Rattle.format.proofs.Rebuilding.{bytesIn, length-rebuilt}
 use Rattle.area.specs.Area.{pasted}
 use Rattle.area.proofs.Filling.{Filling, filling-start, filling-put, filling-end, filling-room}
 use Rattle.rebuild.specs.Rebuild.{Ready, filled}
-use Rattle.rebuild.specs.Show.{Where, whereOf, lent, Lies}
-
--- the bytes of a part that is lent back
-pub lent-bytes : (r block st : RefT (List ℕ)) (p : Part) → whereOf r ≡ lent block st p → now r ≡ bytesIn (now block) (now st) p
-lent-bytes r block st (ofBlock a n) e = ap (λ (w : Where). w .1) e
-lent-bytes r block st (ofStore a n) e = ap (λ (w : Where). w .1) e
+use Rattle.show.specs.Show.{Lies}
 
 rebuilt-cons : (r : Record) (l : List Record) (b st : List ℕ) (used : ℕ)
     → rebuilt (r ∷ l) (drop used b) st ≡ bytesIn b st (partOf used r) ++ rebuilt l (drop (used + stored (r ∷ [])) b) st
@@ -40,20 +35,6 @@ lies-first (Match s a) l b st used h e = h .0
 inside-rest : (r : Record) (l : List Record) (st : List ℕ) → Inside st (r ∷ l) → Inside st l
 inside-rest (New s) l st h = h
 inside-rest (Match s a) l st h = h .1
-
--- the part that record k stands for lies in the bytes it is taken from
-pub lies-at : (l : List Record) (b st : List ℕ) (k : ℕ) → Inside st l → length b ≡ stored l → k < length l → Lies (partAt l k) b st
-lies-at l b st k h e i = lies-shift (getD l k (New 0)) (0 + stored (take k l)) (stored (take k l)) (omega arith) (go 0 l k h (omega arith) i)
-  where
-    lies-shift : (r : Record) (x y : ℕ) → x ≡ y → Lies (partOf x r) b st → Lies (partOf y r) b st
-    lies-shift r x y q m = rw (← q) m
-
-    go : (before : ℕ) (l : List Record) (k : ℕ) → Inside st l → before + stored l ≤ length b → k < length l → Lies (partOf (before + stored (take k l)) (getD l k (New 0))) b st
-    go before [] k h e i = absurd (omega arith)
-    go before (New s ∷ l) zero h e i = omega arith
-    go before (Match s a ∷ l) zero h e i = h .0
-    go before (New s ∷ l) (suc k) h e i = lies-shift (getD l k (New 0)) (before + s + stored (take k l)) (before + (s + stored (take k l))) (omega arith) (go (before + s) l k h (omega arith) (omega arith))
-    go before (Match s a ∷ l) (suc k) h e i = go before l k (h .1) e (omega arith)
 
 pub record Copied (list block st area₀ area : List ℕ) (n i used out : ℕ) : Type 0 where
   pub inside : Inside st (recordsFrom list n i)

@@ -10,7 +10,8 @@ use Rattle.format.specs.Record.{rowAt, recordOf}
 use Rattle.format.specs.Meaning.{partOf}
 use Rattle.format.proofs.Rebuilding.{bytesIn}
 use Rattle.area.specs.Area.{pasted}
-use Rattle.rebuild.proofs.Copying.{Copied, copied-start, copied-end, copied-part, copied-room, copied-used, copied-next, lent-bytes}
+use Rattle.rebuild.proofs.Copying.{Copied, copied-start, copied-end, copied-part, copied-room, copied-used, copied-next}
+use Rattle.show.proofs.Lending.{lent-bytes}
 use borrow.Author.Needs.{needs}
 use Rattle.rebuild.proofs.fill.Statement.{statement}
 use Rattle.rebuild.proofs.fill.Tie as tie

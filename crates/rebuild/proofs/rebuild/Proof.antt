@@ -9,8 +9,9 @@ use Rattle.format.specs.Meaning.{whole}
 use Rattle.walk.specs.declared.Totals.{Totals}
 use Rattle.walk.specs.Walked.{refusalOf}
 use Rattle.walk.proofs.Telling.{fine-of-through, stop-of-stopped}
-use Rattle.rebuild.specs.Rebuild.{inputsRuling, lengthOnly}
-use Rattle.rebuild.proofs.Accepting.{readable-of-inputs}
+use Rattle.format.specs.Refusal.{lengthOnly}
+use Rattle.show.specs.Check.{inputsRuling}
+use Rattle.show.proofs.Accepting.{readable-of-inputs}
 use borrow.Author.Needs.{needs}
 use Rattle.rebuild.proofs.rebuild.Statement.{statement}
 use Rattle.rebuild.proofs.rebuild.Tie as tie
@@ -57,8 +58,8 @@ fill-requires c κs =
       room = omega (arith, c .before .before .index .ensures .0, ap (λ (t : Totals). t .whole) (through .1));
     }
 
-accepted-requires : tie.Need-accepted-requires
-accepted-requires c κs = search needs
+length-only-requires : tie.Need-length-only-requires
+length-only-requires c κs = search needs
 
 same-length : tie.Need-same-length
 same-length c = search needs
@@ -69,7 +70,7 @@ returns-3 c =
     let through = fine-of-through (inputsRuling (g .list .now) (g .block .now) (g .store .now)) (recordsOf (g .list .now)) (c .before .before .before .before .before .before .before .before .w .given .0 .0) (sym (c .before .before .before .before .before .before .before .before .before .before .accept .ensures) ∙ c .before .before .before .before .before .before .before .before .w .given .1) in
     let long = le-leb (whole (recordsOf (g .list .now))) (length (g .area .now)) (omega (arith, c .before .before .before .before .before .before .index .ensures .0, ap (λ (t : Totals). t .whole) (through .1))) in
     record {
-      answered = rw (through .0, long) (c .accepted .ensures ∙ ap (λ (t : Totals). Accepted (lengthOnly (t .whole))) (through .1));
+      answered = rw (through .0, long) (c .length-only .ensures ∙ ap (λ (t : Totals). Accepted (lengthOnly (t .whole))) (through .1));
       area-after = rw (through .0, long) (c .before .before .before .fill .ensures);
     }
 
@@ -86,6 +87,6 @@ rebuild-spec =
     refused-requires
     returns-2
     fill-requires
-    accepted-requires
+    length-only-requires
     same-length
     returns-3)

@@ -1,4 +1,4 @@
--- `rebuild::accept` meets its contract: each way out is the ruling of the check that failed there, or none. Assumes nothing.
+-- `show::accept` meets its contract: each way out is the ruling of the check that failed there, or none. Assumes nothing.
 use native.Mathlib.Omega.{arith}
 use mathlib.Core.Path.{_≡_, sym, _∙_, ap}
 use mathlib.Core.List.{[]}
@@ -12,10 +12,10 @@ use Rattle.walk.specs.declared.Totals.{Totals}
 use Rattle.walk.specs.declared.Walked.the-variants.{Through}
 use Rattle.walk.specs.Checks.{checks, walkRuling}
 use Rattle.walk.proofs.Telling.{fine-of-through, stop-of-stopped}
-use Rattle.rebuild.proofs.Accepting.{inputs-long, inputs-list, inputs-walk, inputs-block, inputs-fine}
+use Rattle.show.proofs.Accepting.{inputs-long, inputs-list, inputs-walk, inputs-block, inputs-fine}
 use borrow.Author.Needs.{needs}
-use Rattle.rebuild.proofs.accept.Statement.{statement}
-use Rattle.rebuild.proofs.accept.Tie as tie
+use Rattle.show.proofs.accept.Statement.{statement}
+use Rattle.show.proofs.accept.Tie as tie
 
 stopped-requires : tie.Need-stopped-requires
 stopped-requires c κs = search needs

@@ -1,4 +1,4 @@
--- `rebuild::stored_before` meets its contract. The invariant: `sum` is the stored bytes of the first i records. The measure is what is left of k.
+-- `show::stored_before` meets its contract. The invariant: `sum` is the stored bytes of the first i records. The measure is what is left of k.
 -- Assumes nothing.
 use Prim.Native.Nat.{ℕ, _+_, _-_, _≤_}
 use native.Mathlib.Omega.{arith}
@@ -11,8 +11,8 @@ use Rattle.format.specs.Record.{recordOf, recordsOf}
 use Rattle.format.specs.Meaning.{stored}
 use Rattle.format.proofs.Rows.{length-recordsOf, getD-recordsOf, stored-take-next, stored-take-most}
 use borrow.Author.Needs.{needs}
-use Rattle.rebuild.proofs.stored_before.Statement.{statement}
-use Rattle.rebuild.proofs.stored_before.Tie as tie
+use Rattle.show.proofs.stored_before.Statement.{statement}
+use Rattle.show.proofs.stored_before.Tie as tie
 
 abbrev Inv-loop : tie.InvT-loop
 Inv-loop list k sum₀ i₀ sum i = (i ≤ k) × (sum ≡ stored (take i (recordsOf list)))

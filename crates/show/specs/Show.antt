@@ -7,7 +7,7 @@ use denote.Ref.{RefT, ptr, now}
 use Rattle.format.specs.Refusal.{unlessRefused}
 use Rattle.format.specs.Record.{recordsOf}
 use Rattle.format.specs.Meaning.{Part, ofBlock, ofStore, partAt}
-use Rattle.rebuild.specs.Rebuild.{checkRuling}
+use Rattle.show.specs.Check.{checkRuling}
 
 -- where lent bytes lie (block of memory, offset in it), and which bytes they are
 abbrev pub Where : Type 0

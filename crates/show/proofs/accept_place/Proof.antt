@@ -1,4 +1,4 @@
--- `rebuild::accept_place` meets its contract: the refusal of the first checks, that of the last, or none. Assumes nothing.
+-- `show::accept_place` meets its contract: the refusal of the first checks, that of the last, or none. Assumes nothing.
 use native.Mathlib.Omega.{arith}
 use mathlib.Core.Path.{sym, _∙_, ap}
 use borrow.Author.Tests.{lt-ltb, le-ltb}
@@ -7,10 +7,10 @@ use Rattle.format.specs.Record.{recordsOf}
 use Rattle.walk.specs.declared.Totals.{Totals}
 use Rattle.walk.specs.declared.Walked.the-variants.{Through}
 use Rattle.walk.proofs.Telling.{fine-of-through, stop-of-stopped}
-use Rattle.rebuild.specs.Rebuild.{inputsRuling}
+use Rattle.show.specs.Check.{inputsRuling}
 use borrow.Author.Needs.{needs}
-use Rattle.rebuild.proofs.accept_place.Statement.{statement}
-use Rattle.rebuild.proofs.accept_place.Tie as tie
+use Rattle.show.proofs.accept_place.Statement.{statement}
+use Rattle.show.proofs.accept_place.Tie as tie
 
 accept-requires : tie.Need-accept-requires
 accept-requires c κs = search needs

@@ -1,9 +1,9 @@
--- `rebuild::part_of` meets its contract: the part of the block for a new record, of the store for a match. Assumes nothing.
+-- `show::part_of` meets its contract: the part of the block for a new record, of the store for a match. Assumes nothing.
 use native.Mathlib.Omega.{arith}
 use native.Mathlib.Nat.{add-sub-cancel-left}
 use borrow.Author.Needs.{needs}
-use Rattle.rebuild.proofs.part_of.Statement.{statement}
-use Rattle.rebuild.proofs.part_of.Tie as tie
+use Rattle.show.proofs.part_of.Statement.{statement}
+use Rattle.show.proofs.part_of.Tie as tie
 
 enum-known-record : tie.Need-enum-known-record
 enum-known-record c = search needs

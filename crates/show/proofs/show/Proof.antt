@@ -1,4 +1,4 @@
--- `rebuild::show` meets its contract: the part of record k where check accepts, else the block's first 0 bytes. Assumes nothing.
+-- `show::show` meets its contract: the part of record k where check accepts, else the block's first 0 bytes. Assumes nothing.
 use Prim.Native.Nat.{ℕ}
 use native.Mathlib.Omega.{arith}
 use mathlib.Core.Path.{_≡_, sym, _∙_, ap}
@@ -9,12 +9,12 @@ use Rattle.format.specs.Meaning.{stored}
 use Rattle.format.proofs.Rows.{getD-recordsOf, length-recordsOf}
 use Rattle.format.proofs.Rebuilding.{stored-most}
 use Rattle.walk.proofs.Telling.{fine-of-through, stop-of-stopped}
-use Rattle.rebuild.specs.Rebuild.{checkRuling}
-use Rattle.rebuild.proofs.Accepting.{checked-parts}
-use Rattle.rebuild.proofs.Copying.{lies-at}
+use Rattle.show.specs.Check.{checkRuling}
+use Rattle.show.proofs.Accepting.{checked-parts}
+use Rattle.show.proofs.Lending.{lies-at}
 use borrow.Author.Needs.{needs}
-use Rattle.rebuild.proofs.show.Statement.{statement}
-use Rattle.rebuild.proofs.show.Tie as tie
+use Rattle.show.proofs.show.Statement.{statement}
+use Rattle.show.proofs.show.Tie as tie
 
 accept-place-requires : tie.Need-accept-place-requires
 accept-place-requires c κs = search needs

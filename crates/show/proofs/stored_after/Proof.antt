@@ -1,8 +1,8 @@
--- `rebuild::stored_after` meets its contract. Assumes nothing.
+-- `show::stored_after` meets its contract. Assumes nothing.
 use native.Mathlib.Omega.{arith}
 use borrow.Author.Needs.{needs}
-use Rattle.rebuild.proofs.stored_after.Statement.{statement}
-use Rattle.rebuild.proofs.stored_after.Tie as tie
+use Rattle.show.proofs.stored_after.Statement.{statement}
+use Rattle.show.proofs.stored_after.Tie as tie
 
 enum-known-record : tie.Need-enum-known-record
 enum-known-record c = search needs

@@ -1,13 +1,13 @@
--- `rebuild::check` meets its contract. Assumes nothing.
+-- `show::check` meets its contract. Assumes nothing.
 use mathlib.Core.Path.{sym, _∙_, ap}
 use Rattle.format.specs.declared.Answer.the-variants.{Refused}
 use Rattle.format.specs.Record.{recordsOf}
 use Rattle.walk.specs.Walked.{refusalOf}
 use Rattle.walk.proofs.Telling.{fine-of-through, stop-of-stopped}
-use Rattle.rebuild.specs.Rebuild.{checkRuling}
+use Rattle.show.specs.Check.{checkRuling}
 use borrow.Author.Needs.{needs}
-use Rattle.rebuild.proofs.check.Statement.{statement}
-use Rattle.rebuild.proofs.check.Tie as tie
+use Rattle.show.proofs.check.Statement.{statement}
+use Rattle.show.proofs.check.Tie as tie
 
 accept-place-requires : tie.Need-accept-place-requires
 accept-place-requires c κs = search needs
@@ -27,14 +27,14 @@ returns c =
     let stop = stop-of-stopped (checkRuling (g .list .now) (g .block .now) (g .store .now) (g .k)) (recordsOf (g .list .now)) (c .before .enum-told .given .0 .0) (sym (c .before .before .before .accept-place .ensures) ∙ c .before .enum-told .given .1) in
     rw stop (ap Refused (c .refusal-of .ensures ∙ ap refusalOf (c .before .enum-told .given .1)))
 
-accepted-requires : tie.Need-accepted-requires
-accepted-requires c κs = search needs
+length-only-requires : tie.Need-length-only-requires
+length-only-requires c κs = search needs
 
 returns-2 : tie.Need-returns-2
 returns-2 c =
     let g = c .before .before .before .before .before .before .before .before .args in
     let through = fine-of-through (checkRuling (g .list .now) (g .block .now) (g .store .now) (g .k)) (recordsOf (g .list .now)) (c .before .before .w .given .0 .0) (sym (c .before .before .before .before .accept-place .ensures) ∙ c .before .before .w .given .1) in
-    rw (through .0) (c .accepted .ensures)
+    rw (through .0) (c .length-only .ensures)
 
 pub check-spec : {M : Type 1} → statement M
 check-spec =
@@ -45,5 +45,5 @@ check-spec =
     enum-told
     refusal-of-requires
     returns
-    accepted-requires
+    length-only-requires
     returns-2)
