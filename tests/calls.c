@@ -11,7 +11,7 @@
 
 #include "controller.h"
 
-#define CASES 204
+#define CASES 207
 #define FILL 0xA5
 #define AREA 256
 
@@ -499,6 +499,12 @@ static void test_greatest_lists(void)
     fill_areas();
     expect("partition", "a version of 16,777,217 bytes", refused(partition(1, 1, most, length, bytes, VERSION_MOST + 1, bytes, VERSION_MOST, bits,
         RECORDS_MOST, out, length, stored, VERSION_MOST, answer, sizeof answer), 2, 0));
+    fill_areas();
+    expect("partition", "1 before 2", refused(partition(0, 1, most, length, bytes, VERSION_MOST + 1, bytes, VERSION_MOST, bits, RECORDS_MOST, out, length,
+        stored, VERSION_MOST, answer, sizeof answer), 1, 0));
+    fill_areas();
+    expect("partition", "2 before 3", refused(partition(1, 1, most, length - 1, bytes, VERSION_MOST + 1, bytes, VERSION_MOST, bits, RECORDS_MOST, out,
+        length, stored, VERSION_MOST, answer, sizeof answer), 2, 0));
     free(most), free(out), free(bits), free(zeros), free(bytes), free(stored);
 }
 
@@ -510,6 +516,8 @@ static void test_greatest_store(void)
     expect("check", "a store of 268,435,456 bytes", refused(check(list, 36, block, 10, huge, STORE_MOST, 0, answer, sizeof answer), 0, 0));
     fill_areas();
     expect("check", "a store of 268,435,457 bytes", refused(check(list, 36, block, 10, huge, (size_t)STORE_MOST + 1, 0, answer, sizeof answer), 2, 0));
+    fill_areas();
+    expect("check", "2 before 3", refused(check(list, 35, block, 10, huge, (size_t)STORE_MOST + 1, 0, answer, sizeof answer), 2, 0));
     fill_areas();
     expect("pass", "a store of 268,435,457 bytes", refused(pass(10, 1, list, 36, (const uint8_t *)VERSION_C, 29, huge, (size_t)STORE_MOST + 1, choice,
         AREA, list_area, AREA, block_area, AREA, answer, sizeof answer), 2, 0));

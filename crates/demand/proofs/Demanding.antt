@@ -29,7 +29,7 @@ use Rattle.call_partition.specs.Partition.{leastOf, Partitioned}
 use Rattle.linear.proofs.Theorems.{PassHolds, pass-holds}
 use Rattle.call_pass.specs.Pass.{passChoiceOf, passLooksOf}
 use Rattle.demand.specs.Demand.{Call, Calls, writtenList, writtenBlock, Made, Room, Demand, DemandThree, Demonstrated}
-use Rattle.demand.proofs.Written.{whole-written, rebuilt-written, rebuild-accepts, partition-accepts, least-again, list-again}
+use Rattle.demand.proofs.WrittenList.{whole-written, rebuilt-written, rebuild-accepts, partition-accepts, least-again, list-again}
 
 accepts-of : {a : Answer} {x : Figures} → a ≡ Accepted x → Accepts a
 accepts-of e = rw e tt

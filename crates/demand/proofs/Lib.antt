@@ -1,3 +1,3 @@
-pub mod Written
+pub mod WrittenList
 pub mod Demanding
 pub mod WorkedHolds
