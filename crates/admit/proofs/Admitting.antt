@@ -1,6 +1,6 @@
 -- The checks of partition and pass, one by one; what inputs that pass them have; and that a well-formed list that was written passes them.
 -- Assumes nothing.
-use Prim.Native.Nat.{ℕ, _*_, _/_, _≤_}
+use Prim.Native.Nat.{ℕ, _/_, _≤_}
 use native.Mathlib.Omega.{arith}
 use mathlib.Core.Path.{_≡_, _∙_, ap}
 use mathlib.Core.Bool.{true, false, _&&_}
@@ -20,7 +20,7 @@ use Rattle.format.specs.Meaning.{whole}
 use Rattle.format.specs.WellFormed.{WellFormed}
 use Rattle.format.proofs.Rulings.{fine-of-then, true-of-need, both-of-and, and-of-both}
 use Rattle.format.proofs.Rows.{Counted, counted-of-fits}
-use Rattle.format.proofs.Encoding.{length-encode, records-encode, fits-encode}
+use Rattle.format.proofs.Encoding.{records-encode, fits-encode}
 use Rattle.format.proofs.Rebuilding.{whole-agrees}
 use Rattle.walk.specs.declared.Scope.the-variants as scope
 use Rattle.walk.specs.declared.Totals.{Totals}

@@ -2,8 +2,7 @@
 -- Assumes nothing.
 use Prim.Native.Nat.{ℕ, _*_, _/_, _≤_}
 use native.Mathlib.Omega.{arith}
-use mathlib.Core.Path.{_≡_, refl, sym, _∙_, ap}
-use mathlib.Core.Bool.{true}
+use mathlib.Core.Path.{_≡_, sym, _∙_, ap}
 use mathlib.Core.List.{List}
 use lib.ListN.{length}
 use Rattle.format.specs.declared.Record.{Record}
@@ -28,7 +27,7 @@ use Rattle.rebuild.specs.Rebuild.{rebuildRuling, Rebuilt}
 use Rattle.call_partition.specs.Partition.{leastOf, Partitioned}
 use Rattle.linear.proofs.Theorems.{PassHolds, pass-holds}
 use Rattle.call_pass.specs.Pass.{passChoiceOf, passLooksOf}
-use Rattle.demand.specs.Demand.{Call, Calls, writtenList, writtenBlock, Made, Room, Demand, DemandThree, Demonstrated}
+use Rattle.demand.specs.Demand.{Calls, writtenList, writtenBlock, Made, Room, Demand, DemandThree, Demonstrated}
 use Rattle.demand.proofs.WrittenList.{whole-written, rebuilt-written, rebuild-accepts, partition-accepts, least-again, list-again}
 
 accepts-of : {a : Answer} {x : Figures} → a ≡ Accepted x → Accepts a

@@ -4,13 +4,11 @@
 use Prim.Native.Nat.{ℕ, _≤_}
 use native.Mathlib.Omega.{arith}
 use mathlib.Core.Path.{_≡_, _∙_, ap}
-use mathlib.Core.Bool.{true}
 use mathlib.Core.List.{List}
 use lib.ListN.{length}
 use Rattle.format.specs.declared.Record.{Record}
 use Rattle.format.specs.declared.Ruling.the-variants.{Fine}
 use Rattle.format.specs.declared.Answer.the-variants.{Accepted}
-use Rattle.format.specs.Limits.{versionMost}
 use Rattle.format.specs.Record.{recordsOf, encode}
 use Rattle.format.specs.Meaning.{whole, blockOf, rebuilt}
 use Rattle.format.specs.WellFormed.{WellFormed, Readable}

@@ -156,13 +156,21 @@ pub fn row_at(list: &[u8], i: usize) -> Row
 }
 
 // The record that a row stands for.
-pub fn record_of(row: Row) -> Record
+fn record_of(row: Row) -> Record
     ensures { λ r. ⌜ r ≡ recordOf row ⌝ }
 {
     if row.kind == 0 {
         return Record::New(row.size);
     }
     Record::Match(row.size, row.address)
+}
+
+// Record i of a list.
+pub fn record_at(list: &[u8], i: usize) -> Record
+    requires { ⌜ 12 * i + 12 ≤ length (now list) ⌝ }
+    ensures { λ r. ⌜ r ≡ recordOf (rowAt (now (list .entry)) i) ⌝ }
+{
+    record_of(row_at(list, i))
 }
 
 // Whether a row is a record: check 4.

@@ -214,7 +214,7 @@ fn load(list: &[u8]) -> Machine
     while 0 < i {
         i -= 1;
         right -= 1;
-        let record = format::record_of(format::row_at(list, i));
+        let record = format::record_at(list, i);
         kinds[right] = kind_of(record);
         sizes[right] = choice::size_of(record);
     }
@@ -243,7 +243,7 @@ fn read_off(machine: Machine, list: &[u8], choice: &mut [u8])
     let mut uncovered = machine.sizes[1];
     let mut i = 0;
     while i < n {
-        let record = format::record_of(format::row_at(list, i));
+        let record = format::record_at(list, i);
         let size = choice::size_of(record);
         choice[i] = bit_of(machine.kinds[at]);
         i += 1;

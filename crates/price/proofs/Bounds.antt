@@ -3,7 +3,7 @@
 use Prim.Native.Nat.{ℕ, _+_, _*_, _≤_}
 use native.Mathlib.Omega.{arith}
 use native.Mathlib.Nat.{mul-le-mul}
-use mathlib.Core.Path.{_≡_, refl, ap}
+use mathlib.Core.Path.{_≡_, refl}
 use mathlib.Core.Bool.{true, _&&_}
 use mathlib.Core.List.{List, [], _∷_}
 use lib.Dec.{leb}
@@ -14,7 +14,6 @@ use Rattle.format.specs.declared.Record.the-variants.{New, Match}
 use Rattle.format.specs.Meaning.{stored}
 use Rattle.format.proofs.Rulings.{both-of-and}
 use Rattle.price.specs.declared.Price.{Price}
-use Rattle.price.specs.declared.Rates.{Rates}
 use Rattle.price.specs.Price.{priceFits, ratesAt, ratesOf, news, matches, cost, RatesFit}
 
 pub product-most : (a b m n : ℕ) → a ≤ m → b ≤ n → a * b ≤ m * n

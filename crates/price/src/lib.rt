@@ -91,7 +91,7 @@ fn tally(list: &[u8]) -> u64
     let mut count: u64 = 0;
     let mut i = 0;
     while i < n {
-        count += one_if_new(format::record_of(format::row_at(list, i)));
+        count += one_if_new(format::record_at(list, i));
         i += 1;
     }
     count

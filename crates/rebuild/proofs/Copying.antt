@@ -1,16 +1,15 @@
 -- Copying record by record: before record i, what was copied stands in the area, and the rest of the records rebuild what is to come.
 -- Assumes nothing.
-use Prim.Native.Nat.{ℕ, zero, suc, _+_, _/_, _≤_, _<_}
+use Prim.Native.Nat.{ℕ, _+_, _/_, _≤_, _<_}
 use native.Mathlib.Omega.{arith}
 use mathlib.Core.Path.{_≡_, sym, _∙_, ap}
 use mathlib.Core.List.{List, [], _∷_, _++_}
-use lib.ListN.{length, take, drop, getD, length-append}
+use lib.ListN.{length, take, drop, length-append}
 use lib.Seq.{drop-drop}
-use denote.Ref.{RefT, now}
 use Rattle.format.specs.declared.Record.{Record}
 use Rattle.format.specs.declared.Record.the-variants.{New, Match}
 use Rattle.format.specs.Record.{rowAt, recordOf, recordsOf, recordsFrom}
-use Rattle.format.specs.Meaning.{stored, rebuilt, Part, ofBlock, ofStore, partOf, partAt}
+use Rattle.format.specs.Meaning.{stored, rebuilt, partOf}
 use Rattle.format.specs.WellFormed.{Inside}
 use Rattle.format.proofs.Rows.{recordsFrom-next, recordsFrom-none, recordsFrom-all, stored-cons}
 use Rattle.format.proofs.Rebuilding.{bytesIn, length-rebuilt}

@@ -15,7 +15,7 @@ fn fill<'a>(list: &[u8], block: &'a [u8], store: &'a [u8], area: &mut [u8])
     let mut out = 0;
     let mut i = 0;
     while i < n {
-        let record = format::record_of(format::row_at(list, i));
+        let record = format::record_at(list, i);
         let part = show::part_of(record, used, block, store);
         area::put(area, out, part);
         out += part.len();

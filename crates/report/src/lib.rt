@@ -86,7 +86,7 @@ fn put_records(area: &mut [u8], list: &[u8]) -> usize
     let mut at = 0;
     let mut i = 0;
     while i < n {
-        at = put_record(area, at, format::record_of(format::row_at(list, i)));
+        at = put_record(area, at, format::record_at(list, i));
         i += 1;
     }
     at

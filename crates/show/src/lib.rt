@@ -98,7 +98,7 @@ fn stored_before(list: &[u8], k: usize) -> usize
     let mut sum = 0;
     let mut i = 0;
     while i < k {
-        let record = format::record_of(format::row_at(list, i));
+        let record = format::record_at(list, i);
         sum = stored_after(record, sum);
         i += 1;
     }
@@ -114,6 +114,6 @@ pub fn show<'a>(list: &[u8], block: &'a [u8], store: &'a [u8], k: u32) -> &'a [u
         return &block[0..0];
     };
     let i = format::index(k);
-    let record = format::record_of(format::row_at(list, i));
+    let record = format::record_at(list, i);
     part_of(record, stored_before(list, i), block, store)
 }

@@ -65,12 +65,7 @@ fn backwards(rates: Rates, list: &[u8], n: usize, choice: &mut [u8]) -> DiskByte
     let mut stored = DiskBytes(0);
     while 0 < i {
         i -= 1;
-        let t = weigh(
-            rates,
-            format::record_of(format::row_at(list, i)),
-            kept,
-            stored,
-        );
+        let t = weigh(rates, format::record_at(list, i), kept, stored);
         choice[i] = t.hint;
         kept = t.kept;
         stored = t.stored;

@@ -3,26 +3,25 @@
 -- Assumes nothing.
 use Prim.Native.Nat.{ℕ, _+_, _-_, _/_, _≤_, _<_}
 use native.Mathlib.Omega.{arith}
-use mathlib.Core.Path.{_≡_, refl, sym, _∙_, ap}
-use mathlib.Core.List.{List, [], _∷_, _++_, append-nil}
+use mathlib.Core.Path.{_≡_, sym, _∙_, ap}
+use mathlib.Core.List.{List, [], _++_, append-nil}
 use lib.ListN.{length, take, drop, length-append, length-drop}
 use lib.Seq.{drop-drop, length-take-le}
 use Rattle.format.specs.declared.Record.{Record}
 use Rattle.format.specs.declared.Record.the-variants.{New, Match}
 use Rattle.format.specs.Limits.{versionMost}
-use Rattle.format.specs.Record.{from, rowAt, recordOf, records, recordsOf, bytesOf, encode, recordsFrom}
+use Rattle.format.specs.Record.{from, rowAt, recordOf, records, recordsOf, encode, recordsFrom}
 use Rattle.format.specs.Meaning.{sizeOf, whole, stored, blockOf}
 use Rattle.format.proofs.Rows.{recordsFrom-next, recordsFrom-none, recordsFrom-all, from-next, length-from, length-recordsOf}
 use Rattle.format.proofs.Rebuilding.{length-block, stored-most}
-use Rattle.format.proofs.Encoding.{encode-append, length-bytes, length-encode}
+use Rattle.format.proofs.Encoding.{encode-append, length-encode}
 use Rattle.area.specs.Area.{pasted}
-use Rattle.area.proofs.Pasting.{pasted-none}
 use Rattle.area.proofs.Filling.{Filling, filling-start, filling-put, filling-end, filling-out, filling-room}
 use Rattle.join.specs.declared.Open.{Open}
-use Rattle.join.specs.declared.Open.the-variants.{No, One}
+use Rattle.join.specs.declared.Open.the-variants.{No}
 use Rattle.join.specs.Join.{join, tidy}
 use Rattle.join.specs.Emit.{pending, openSize, flushed, opened}
-use Rattle.join.proofs.Joining.{join-match, block-join}
+use Rattle.join.proofs.Joining.{block-join}
 use Rattle.join.proofs.Emitting.{held, held-none, held-join, open-size}
 use Rattle.choice.specs.Choice.{bitAt, bitsOf, chosen, chosenRecord}
 use Rattle.choice.proofs.Lists.{size-chosen, whole-list, length-list}

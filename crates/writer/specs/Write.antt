@@ -1,15 +1,14 @@
 -- What is written of a choice: its list and its stored block, each over the front of an area.
 -- Assumes nothing.
-use Prim.Native.Nat.{ℕ, _+_, _/_, _≤_}
+use Prim.Native.Nat.{ℕ, _/_, _≤_}
 use mathlib.Core.Path.{_≡_}
-use mathlib.Core.List.{List, [], _∷_, _++_}
+use mathlib.Core.List.{List}
 use lib.ListN.{length}
 use Rattle.format.specs.declared.Record.{Record}
-use Rattle.format.specs.declared.Record.the-variants.{New, Match}
 use Rattle.format.specs.Limits.{listMost, versionMost}
-use Rattle.format.specs.Record.{word, encode, recordsOf}
-use Rattle.format.specs.Meaning.{sizeOf, whole, blockOf}
-use Rattle.area.specs.Area.{pasted, over}
+use Rattle.format.specs.Record.{encode, recordsOf}
+use Rattle.format.specs.Meaning.{whole, blockOf}
+use Rattle.area.specs.Area.{over}
 use Rattle.choice.specs.Choice.{bitsOf, listOf}
 
 -- the list that a choice area makes of a list, and its stored block

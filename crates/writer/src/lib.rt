@@ -1,7 +1,5 @@
 // Writing what a choice makes of a list: its list, its stored block, and the figures of both.
-ghost use mathlib.Core.Path.{_≡_};
-ghost use Prim.Native.Nat.{_+_, _/_, _≤_, _<_};
-ghost use lib.ListN.{length};
+ghost use Prim.Native.Nat.{_+_, _/_, _<_};
 ghost use Rattle.writer.specs.Write.{ListReady, ListWritten, BlockReady, BlockWritten};
 ghost use Rattle.writer.specs.Decide.{Finishable, Finished};
 use format::Answer;
@@ -20,7 +18,7 @@ fn write_list(list: &[u8], choice: &[u8], list_area: &mut [u8]) -> usize
     let mut last = Open::No;
     let mut i = 0;
     while i < n {
-        let record = choice::chosen(format::record_of(format::row_at(list, i)), choice[i]);
+        let record = choice::chosen(format::record_at(list, i), choice[i]);
         let e = join::emit(list_area, out, last, record);
         out = e.out;
         last = e.last;
@@ -39,7 +37,7 @@ fn write_block(list: &[u8], choice: &[u8], version: &[u8], block_area: &mut [u8]
     let mut out = 0;
     let mut i = 0;
     while i < n {
-        let record = choice::chosen(format::record_of(format::row_at(list, i)), choice[i]);
+        let record = choice::chosen(format::record_at(list, i), choice[i]);
         let from = at;
         at += format::index(choice::size_of(record));
         i += 1;

@@ -1,5 +1,4 @@
 -- `admit::admit` meets its contract: each way out is the refusal of the check that failed there, or none. Assumes nothing.
-use Prim.Native.Nat.{ℕ}
 use mathlib.Core.Path.{_≡_, sym, _∙_, ap}
 use lib.ListN.{length}
 use borrow.Author.Tests.{not-true, not-false}

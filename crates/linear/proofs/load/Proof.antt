@@ -2,7 +2,7 @@
 -- Assumes nothing.
 use Prim.Native.Nat.{ℕ, _-_}
 use native.Mathlib.Omega.{arith}
-use mathlib.Core.Path.{_≡_, refl, ap, subst, _∙_}
+use mathlib.Core.Path.{_≡_, refl, subst}
 use Rattle.format.specs.Record.{rowAt, recordOf}
 use Rattle.linear.proofs.Loading.{Laid, laid-start, laid-next, loaded-of-laid}
 use borrow.Author.Needs.{needs}
@@ -24,36 +24,33 @@ sub-i c = search needs
 sub-right : tie.Need-sub-right Inv-loop μ-loop
 sub-right c = omega (arith, c .before .loop .inv .placed, c .before .loop .inv .few)
 
-row-at-requires : tie.Need-row-at-requires Inv-loop μ-loop
-row-at-requires c κs = omega (arith, c .before .loop .inv .in-n)
-
-record-of-requires : tie.Need-record-of-requires Inv-loop μ-loop
-record-of-requires c κs = search needs
+record-at-requires : tie.Need-record-at-requires Inv-loop μ-loop
+record-at-requires c κs = omega (arith, c .before .loop .inv .in-n)
 
 kind-of-requires : tie.Need-kind-of-requires Inv-loop μ-loop
 kind-of-requires c κs = search needs
 
 array-write-kinds : tie.Need-array-write-kinds Inv-loop μ-loop
-array-write-kinds c = omega (arith, c .before .before .before .before .loop .inv .placed)
+array-write-kinds c = omega (arith, c .before .before .before .loop .inv .placed)
 
 size-of-requires : tie.Need-size-of-requires Inv-loop μ-loop
 size-of-requires c κs = search needs
 
 mul-sizes : tie.Need-mul-sizes Inv-loop μ-loop
-mul-sizes c = omega (arith, c .before .before .before .before .before .loop .inv .placed)
+mul-sizes c = omega (arith, c .before .before .before .before .loop .inv .placed)
 
 array-write-sizes : tie.Need-array-write-sizes Inv-loop μ-loop
-array-write-sizes c = omega (arith, c .before .before .before .before .before .loop .inv .placed)
+array-write-sizes c = omega (arith, c .before .before .before .before .loop .inv .placed)
 
 loop-less : tie.Need-loop-less Inv-loop μ-loop
 loop-less c = search needs
 
 loop-again : tie.Need-loop-again Inv-loop μ-loop
 loop-again c =
-    let g = c .before .before .before .before .before .before .before .args in
-    let l = c .before .before .before .before .before .loop in
-    let is : c .before .before .record-of .result ≡ recordOf (rowAt (g .list .now) (l .i - 1)) = c .before .before .record-of .ensures ∙ ap recordOf (c .before .before .before .row-at .ensures) in
-    laid-next (g .list .now) (l .kinds) (l .sizes) (l .i) (l .right) (l .inv) (omega arith) (c .before .before .record-of .result) is (c .before .kind-of .result) (c .size-of .result) (c .before .kind-of .ensures) (c .size-of .ensures)
+    let g = c .before .before .before .before .before .before .args in
+    let l = c .before .before .before .before .loop in
+    let is : c .before .before .record-at .result ≡ recordOf (rowAt (g .list .now) (l .i - 1)) = c .before .before .record-at .ensures in
+    laid-next (g .list .now) (l .kinds) (l .sizes) (l .i) (l .right) (l .inv) (omega arith) (c .before .before .record-at .result) is (c .before .kind-of .result) (c .size-of .result) (c .before .kind-of .ensures) (c .size-of .ensures)
 
 returns : tie.Need-returns Inv-loop μ-loop
 returns c =
@@ -71,8 +68,7 @@ load-spec =
     loop-holds
     sub-i
     sub-right
-    row-at-requires
-    record-of-requires
+    record-at-requires
     kind-of-requires
     array-write-kinds
     size-of-requires

@@ -22,26 +22,23 @@ element-copy-out-uncovered c = search needs
 loop-holds : tie.Need-loop-holds Inv-loop μ-loop
 loop-holds c = off-start (c .before .before .before .args .t1) (c .before .before .before .args .list .now) (c .before .before .before .args .choice .now) (c .before .before .before .pre)
 
-row-at-requires : tie.Need-row-at-requires Inv-loop μ-loop
-row-at-requires c κs = search needs
-
-record-of-requires : tie.Need-record-of-requires Inv-loop μ-loop
-record-of-requires c κs = search needs
+record-at-requires : tie.Need-record-at-requires Inv-loop μ-loop
+record-at-requires c κs = search needs
 
 size-of-requires : tie.Need-size-of-requires Inv-loop μ-loop
 size-of-requires c κs = search needs
 
 element-copy-out-bit-of : tie.Need-element-copy-out-bit-of Inv-loop μ-loop
-element-copy-out-bit-of c = omega (arith, c .before .before .before .before .loop .inv .at-most, c .before .before .before .before .before .before .before .before .pre .list-most)
+element-copy-out-bit-of c = omega (arith, c .before .before .before .loop .inv .at-most, c .before .before .before .before .before .before .before .pre .list-most)
 
 bit-of-requires : tie.Need-bit-of-requires Inv-loop μ-loop
 bit-of-requires c κs = search needs
 
 slice-write-choice : tie.Need-slice-write-choice Inv-loop μ-loop
 slice-write-choice c =
-    let g = c .before .before .before .before .before .before .before .before .before .before .args in
-    let l = c .before .before .before .before .before .before .loop in
-    off-room (g .t1) (g .list .now) (g .choice .now) (c .before .before .before .before .before .before .before .before .before .before .pre) (l .choice) (l .at) (l .uncovered) (l .i) (l .inv) (omega arith)
+    let g = c .before .before .before .before .before .before .before .before .before .args in
+    let l = c .before .before .before .before .before .loop in
+    off-room (g .t1) (g .list .now) (g .choice .now) (c .before .before .before .before .before .before .before .before .before .pre) (l .choice) (l .at) (l .uncovered) (l .i) (l .inv) (omega arith)
 
 add-i : tie.Need-add-i Inv-loop μ-loop
 add-i c = search needs
@@ -54,31 +51,31 @@ loop-less c = search needs
 
 loop-again : tie.Need-loop-again Inv-loop μ-loop
 loop-again c =
-    let g = c .before .before .before .before .before .before .before .before .before .before .before .args in
-    let l = c .before .before .before .before .before .before .before .loop in
-    let is : c .before .before .before .before .record-of .result ≡ recordOf (rowAt (g .list .now) (l .i)) = c .before .before .before .before .record-of .ensures ∙ ap recordOf (c .before .before .before .before .before .row-at .ensures) in
+    let g = c .before .before .before .before .before .before .before .before .before .before .args in
+    let l = c .before .before .before .before .before .before .loop in
+    let is : c .before .before .before .before .record-at .result ≡ recordOf (rowAt (g .list .now) (l .i)) = c .before .before .before .before .record-at .ensures in
     let size : c .before .before .before .size-of .result ≡ sizeOf (recordOf (rowAt (g .list .now) (l .i))) = c .before .before .before .size-of .ensures ∙ ap sizeOf is in
-    rw size (off-within (g .t1) (g .list .now) (g .choice .now) (c .before .before .before .before .before .before .before .before .before .before .before .pre) (l .choice) (l .at) (l .uncovered) (l .i) (l .inv) (omega arith) (omega (arith, size)) (c .before .bit-of .result) (c .before .bit-of .ensures))
+    rw size (off-within (g .t1) (g .list .now) (g .choice .now) (c .before .before .before .before .before .before .before .before .before .before .pre) (l .choice) (l .at) (l .uncovered) (l .i) (l .inv) (omega arith) (omega (arith, size)) (c .before .bit-of .result) (c .before .bit-of .ensures))
 
 add-at : tie.Need-add-at Inv-loop μ-loop
-add-at c = omega (arith, c .before .before .before .before .before .before .before .loop .inv .at-most, c .before .before .before .before .before .before .before .before .before .before .before .pre .list-most)
+add-at c = omega (arith, c .before .before .before .before .before .before .loop .inv .at-most, c .before .before .before .before .before .before .before .before .before .before .pre .list-most)
 
 mul-uncovered : tie.Need-mul-uncovered Inv-loop μ-loop
-mul-uncovered c = omega (arith, c .before .before .before .before .before .before .before .loop .inv .at-most, c .before .before .before .before .before .before .before .before .before .before .before .pre .list-most)
+mul-uncovered c = omega (arith, c .before .before .before .before .before .before .loop .inv .at-most, c .before .before .before .before .before .before .before .before .before .before .pre .list-most)
 
 element-copy-out-uncovered-2 : tie.Need-element-copy-out-uncovered-2 Inv-loop μ-loop
-element-copy-out-uncovered-2 c = omega (arith, c .before .before .before .before .before .before .before .loop .inv .at-most, c .before .before .before .before .before .before .before .before .before .before .before .pre .list-most)
+element-copy-out-uncovered-2 c = omega (arith, c .before .before .before .before .before .before .loop .inv .at-most, c .before .before .before .before .before .before .before .before .before .before .pre .list-most)
 
 loop-less-2 : tie.Need-loop-less-2 Inv-loop μ-loop
 loop-less-2 c = search needs
 
 loop-again-2 : tie.Need-loop-again-2 Inv-loop μ-loop
 loop-again-2 c =
-    let g = c .before .before .before .before .before .before .before .before .before .before .before .before .args in
-    let l = c .before .before .before .before .before .before .before .before .loop in
-    let is : c .before .before .before .before .before .record-of .result ≡ recordOf (rowAt (g .list .now) (l .i)) = c .before .before .before .before .before .record-of .ensures ∙ ap recordOf (c .before .before .before .before .before .before .row-at .ensures) in
+    let g = c .before .before .before .before .before .before .before .before .before .before .before .args in
+    let l = c .before .before .before .before .before .before .before .loop in
+    let is : c .before .before .before .before .before .record-at .result ≡ recordOf (rowAt (g .list .now) (l .i)) = c .before .before .before .before .before .record-at .ensures in
     let size : c .before .before .before .before .size-of .result ≡ sizeOf (recordOf (rowAt (g .list .now) (l .i))) = c .before .before .before .before .size-of .ensures ∙ ap sizeOf is in
-    off-beyond (g .t1) (g .list .now) (g .choice .now) (c .before .before .before .before .before .before .before .before .before .before .before .before .pre) (l .choice) (l .at) (l .uncovered) (l .i) (l .inv) (omega arith) (omega (arith, size)) (c .before .before .bit-of .result) (c .before .before .bit-of .ensures)
+    off-beyond (g .t1) (g .list .now) (g .choice .now) (c .before .before .before .before .before .before .before .before .before .before .before .pre) (l .choice) (l .at) (l .uncovered) (l .i) (l .inv) (omega arith) (omega (arith, size)) (c .before .before .bit-of .result) (c .before .before .bit-of .ensures)
 
 same-length : tie.Need-same-length Inv-loop μ-loop
 same-length c = c .before .loop .inv .filling .same
@@ -97,8 +94,7 @@ read-off-spec =
     μ-loop
     element-copy-out-uncovered
     loop-holds
-    row-at-requires
-    record-of-requires
+    record-at-requires
     size-of-requires
     element-copy-out-bit-of
     bit-of-requires

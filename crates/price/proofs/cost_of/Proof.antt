@@ -1,5 +1,5 @@
 -- `price::cost_of` meets its contract: the cost of at most 4,096 entries and of stored bytes in 32 bits fits 64 bits. Assumes nothing.
-use Prim.Native.Nat.{ℕ, _+_, _*_, _/_, _-_, _≤_}
+use Prim.Native.Nat.{_/_, _-_, _≤_}
 use native.Mathlib.Omega.{arith}
 use mathlib.Core.Path.{_≡_}
 use lib.ListN.{length}
@@ -7,7 +7,6 @@ use Rattle.format.specs.Record.{recordsOf}
 use Rattle.format.proofs.Rows.{length-recordsOf}
 use Rattle.price.specs.Price.{matches}
 use Rattle.price.proofs.Bounds.{product-most, entries}
-use borrow.Author.Needs.{needs}
 use Rattle.price.proofs.cost_of.Statement.{statement}
 use Rattle.price.proofs.cost_of.Tie as tie
 

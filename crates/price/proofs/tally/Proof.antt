@@ -1,9 +1,9 @@
 -- `price::tally` meets its contract. The invariant: what is counted and what is to come are the new entries of the list, and no record is counted
 -- twice. The measure is the number of records left. Assumes nothing.
-use Prim.Native.Nat.{ℕ, _+_, _/_, _-_, _≤_}
+use Prim.Native.Nat.{_+_, _/_, _-_, _≤_}
 use native.Mathlib.Omega.{arith}
-use mathlib.Core.Path.{_≡_, sym, _∙_, ap}
-use mathlib.Core.List.{List, [], _∷_}
+use mathlib.Core.Path.{_≡_, _∙_, ap}
+use mathlib.Core.List.{[], _∷_}
 use lib.ListN.{length}
 use Rattle.format.specs.declared.Record.{Record}
 use Rattle.format.specs.Record.{rowAt, recordOf, recordsOf, recordsFrom}
@@ -24,17 +24,14 @@ abbrev μ-loop : tie.MeasureT-loop
 loop-holds : tie.Need-loop-holds Inv-loop μ-loop
 loop-holds c = (omega arith, omega arith, omega (arith, ap news (recordsFrom-all (c .before .args .list .now))))
 
-row-at-requires : tie.Need-row-at-requires Inv-loop μ-loop
-row-at-requires c κs = omega arith
-
-record-of-requires : tie.Need-record-of-requires Inv-loop μ-loop
-record-of-requires c κs = search needs
+record-at-requires : tie.Need-record-at-requires Inv-loop μ-loop
+record-at-requires c κs = omega arith
 
 one-if-new-requires : tie.Need-one-if-new-requires Inv-loop μ-loop
 one-if-new-requires c κs = search needs
 
 add-count : tie.Need-add-count Inv-loop μ-loop
-add-count c = omega (arith, c .before .before .before .before .loop .inv .1, c .one-if-new .ensures .1)
+add-count c = omega (arith, c .before .before .before .loop .inv .1, c .one-if-new .ensures .1)
 
 add-i : tie.Need-add-i Inv-loop μ-loop
 add-i c = omega arith
@@ -44,11 +41,11 @@ loop-less c = omega arith
 
 loop-again : tie.Need-loop-again Inv-loop μ-loop
 loop-again c =
-    let l = c .before .before .before .before .before .before .args .list .now in
-    let i = c .before .before .before .before .loop .i in
-    let is : c .before .record-of .result ≡ recordOf (rowAt l i) = c .before .record-of .ensures ∙ ap recordOf (c .before .before .row-at .ensures) in
+    let l = c .before .before .before .before .before .args .list .now in
+    let i = c .before .before .before .loop .i in
+    let is : c .before .record-at .result ≡ recordOf (rowAt l i) = c .before .record-at .ensures in
     let next : news (recordsFrom l (length l / 12) i) ≡ news (recordOf (rowAt l i) ∷ []) + news (recordsFrom l (length l / 12) (i + 1)) = ap news (recordsFrom-next l (length l / 12) i (omega arith)) ∙ news-cons (recordOf (rowAt l i)) (recordsFrom l (length l / 12) (i + 1)) in
-    (omega arith, omega (arith, c .before .before .before .before .loop .inv .1, c .one-if-new .ensures .1), omega (arith, c .before .before .before .before .loop .inv .2, c .one-if-new .ensures .0, ap (λ (x : Record). news (x ∷ [])) is, next))
+    (omega arith, omega (arith, c .before .before .before .loop .inv .1, c .one-if-new .ensures .1), omega (arith, c .before .before .before .loop .inv .2, c .one-if-new .ensures .0, ap (λ (x : Record). news (x ∷ [])) is, next))
 
 returns : tie.Need-returns Inv-loop μ-loop
 returns c =
@@ -63,8 +60,7 @@ tally-spec =
     Inv-loop
     μ-loop
     loop-holds
-    row-at-requires
-    record-of-requires
+    record-at-requires
     one-if-new-requires
     add-count
     add-i

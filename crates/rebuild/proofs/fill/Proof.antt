@@ -27,45 +27,42 @@ loop-holds c =
     let g = c .before .before .before .before .args in
     (omega arith, copied-start (g .list .now) (g .block .now) (g .store .now) (g .area .now) (c .before .before .before .before .pre))
 
-row-at-requires : tie.Need-row-at-requires Inv-loop μ-loop
-row-at-requires c κs = search needs
-
-record-of-requires : tie.Need-record-of-requires Inv-loop μ-loop
-record-of-requires c κs = search needs
+record-at-requires : tie.Need-record-at-requires Inv-loop μ-loop
+record-at-requires c κs = search needs
 
 part-of-requires : tie.Need-part-of-requires Inv-loop μ-loop
 part-of-requires c κs =
-    let g = c .before .before .before .before .before .before .before .before .args in
-    let l = c .before .before .before .loop in
+    let g = c .before .before .before .before .before .before .before .args in
+    let l = c .before .before .loop in
     let n = length (g .list .now) / 12 in
-    let is : c .record-of .result ≡ recordOf (rowAt (g .list .now) (l .i)) = c .record-of .ensures ∙ ap recordOf (c .before .row-at .ensures) in
-    copied-part (g .list .now) (g .block .now) (g .store .now) (g .area .now) (c .before .before .before .before .before .before .before .before .pre) (l .area) n (l .i) (l .used) (l .out) (l .inv .1) (c .record-of .result) is (omega arith)
+    let is : c .record-at .result ≡ recordOf (rowAt (g .list .now) (l .i)) = c .record-at .ensures in
+    copied-part (g .list .now) (g .block .now) (g .store .now) (g .area .now) (c .before .before .before .before .before .before .before .pre) (l .area) n (l .i) (l .used) (l .out) (l .inv .1) (c .record-at .result) is (omega arith)
 
 put-requires : tie.Need-put-requires Inv-loop μ-loop
 put-requires c κs =
-    let g = c .before .before .before .before .before .before .before .before .before .before .args in
-    let l = c .before .before .before .before .before .loop in
+    let g = c .before .before .before .before .before .before .before .before .before .args in
+    let l = c .before .before .before .before .loop in
     let n = length (g .list .now) / 12 in
-    let is : c .before .before .record-of .result ≡ recordOf (rowAt (g .list .now) (l .i)) = c .before .before .record-of .ensures ∙ ap recordOf (c .before .before .before .row-at .ensures) in
-    let part : now (c .before .part-of .result) ≡ bytesIn (g .block .now) (g .store .now) (partOf (l .used) (c .before .before .record-of .result)) = lent-bytes (c .before .part-of .result) (g .block) (g .store) (partOf (l .used) (c .before .before .record-of .result)) (c .before .part-of .ensures) in
-    omega (arith, ap length part, copied-room (g .list .now) (g .block .now) (g .store .now) (g .area .now) (c .before .before .before .before .before .before .before .before .before .before .pre) (l .area) n (l .i) (l .used) (l .out) (l .inv .1) (c .before .before .record-of .result) is (omega arith))
+    let is : c .before .before .record-at .result ≡ recordOf (rowAt (g .list .now) (l .i)) = c .before .before .record-at .ensures in
+    let part : now (c .before .part-of .result) ≡ bytesIn (g .block .now) (g .store .now) (partOf (l .used) (c .before .before .record-at .result)) = lent-bytes (c .before .part-of .result) (g .block) (g .store) (partOf (l .used) (c .before .before .record-at .result)) (c .before .part-of .ensures) in
+    omega (arith, ap length part, copied-room (g .list .now) (g .block .now) (g .store .now) (g .area .now) (c .before .before .before .before .before .before .before .before .before .pre) (l .area) n (l .i) (l .used) (l .out) (l .inv .1) (c .before .before .record-at .result) is (omega arith))
 
 add-out : tie.Need-add-out Inv-loop μ-loop
 add-out c =
-    let g = c .before .before .before .before .before .before .before .before .before .before .before .before .before .args in
-    let l = c .before .before .before .before .before .before .before .before .loop in
+    let g = c .before .before .before .before .before .before .before .before .before .before .before .before .args in
+    let l = c .before .before .before .before .before .before .before .loop in
     let n = length (g .list .now) / 12 in
-    let is : c .before .before .before .before .before .record-of .result ≡ recordOf (rowAt (g .list .now) (l .i)) = c .before .before .before .before .before .record-of .ensures ∙ ap recordOf (c .before .before .before .before .before .before .row-at .ensures) in
-    let part : now (c .before .before .before .before .part-of .result) ≡ bytesIn (g .block .now) (g .store .now) (partOf (l .used) (c .before .before .before .before .before .record-of .result)) = lent-bytes (c .before .before .before .before .part-of .result) (g .block) (g .store) (partOf (l .used) (c .before .before .before .before .before .record-of .result)) (c .before .before .before .before .part-of .ensures) in
-    omega (arith, ap length part, copied-room (g .list .now) (g .block .now) (g .store .now) (g .area .now) (c .before .before .before .before .before .before .before .before .before .before .before .before .before .pre) (l .area) n (l .i) (l .used) (l .out) (l .inv .1) (c .before .before .before .before .before .record-of .result) is (omega arith), l .inv .1 .filling .same)
+    let is : c .before .before .before .before .before .record-at .result ≡ recordOf (rowAt (g .list .now) (l .i)) = c .before .before .before .before .before .record-at .ensures in
+    let part : now (c .before .before .before .before .part-of .result) ≡ bytesIn (g .block .now) (g .store .now) (partOf (l .used) (c .before .before .before .before .before .record-at .result)) = lent-bytes (c .before .before .before .before .part-of .result) (g .block) (g .store) (partOf (l .used) (c .before .before .before .before .before .record-at .result)) (c .before .before .before .before .part-of .ensures) in
+    omega (arith, ap length part, copied-room (g .list .now) (g .block .now) (g .store .now) (g .area .now) (c .before .before .before .before .before .before .before .before .before .before .before .before .pre) (l .area) n (l .i) (l .used) (l .out) (l .inv .1) (c .before .before .before .before .before .record-at .result) is (omega arith), l .inv .1 .filling .same)
 
 stored-after-requires : tie.Need-stored-after-requires Inv-loop μ-loop
 stored-after-requires c κs =
-    let g = c .before .before .before .before .before .before .before .before .before .before .before .before .before .args in
-    let l = c .before .before .before .before .before .before .before .before .loop in
+    let g = c .before .before .before .before .before .before .before .before .before .before .before .before .args in
+    let l = c .before .before .before .before .before .before .before .loop in
     let n = length (g .list .now) / 12 in
-    let is : c .before .before .before .before .before .record-of .result ≡ recordOf (rowAt (g .list .now) (l .i)) = c .before .before .before .before .before .record-of .ensures ∙ ap recordOf (c .before .before .before .before .before .before .row-at .ensures) in
-    omega (arith, copied-used (g .list .now) (g .block .now) (g .store .now) (g .area .now) (c .before .before .before .before .before .before .before .before .before .before .before .before .before .pre) (l .area) n (l .i) (l .used) (l .out) (l .inv .1) (c .before .before .before .before .before .record-of .result) is (omega arith))
+    let is : c .before .before .before .before .before .record-at .result ≡ recordOf (rowAt (g .list .now) (l .i)) = c .before .before .before .before .before .record-at .ensures in
+    omega (arith, copied-used (g .list .now) (g .block .now) (g .store .now) (g .area .now) (c .before .before .before .before .before .before .before .before .before .before .before .before .pre) (l .area) n (l .i) (l .used) (l .out) (l .inv .1) (c .before .before .before .before .before .record-at .result) is (omega arith))
 
 add-i : tie.Need-add-i Inv-loop μ-loop
 add-i c = search needs
@@ -75,12 +72,12 @@ loop-less c = search needs
 
 loop-again : tie.Need-loop-again Inv-loop μ-loop
 loop-again c =
-    let g = c .before .before .before .before .before .before .before .before .before .before .before .before .before .before .args in
-    let l = c .before .before .before .before .before .before .before .before .before .loop in
+    let g = c .before .before .before .before .before .before .before .before .before .before .before .before .before .args in
+    let l = c .before .before .before .before .before .before .before .before .loop in
     let n = length (g .list .now) / 12 in
-    let is : c .before .before .before .before .before .before .record-of .result ≡ recordOf (rowAt (g .list .now) (l .i)) = c .before .before .before .before .before .before .record-of .ensures ∙ ap recordOf (c .before .before .before .before .before .before .before .row-at .ensures) in
-    let part : now (c .before .before .before .before .before .part-of .result) ≡ bytesIn (g .block .now) (g .store .now) (partOf (l .used) (c .before .before .before .before .before .before .record-of .result)) = lent-bytes (c .before .before .before .before .before .part-of .result) (g .block) (g .store) (partOf (l .used) (c .before .before .before .before .before .before .record-of .result)) (c .before .before .before .before .before .part-of .ensures) in
-    (omega arith, copied-next (g .list .now) (g .block .now) (g .store .now) (g .area .now) (c .before .before .before .before .before .before .before .before .before .before .before .before .before .before .pre) (l .area) n (l .i) (l .used) (l .out) (l .inv .1) (c .before .before .before .before .before .before .record-of .result) is (omega arith) _ _ _ (c .before .before .before .put .ensures ∙ ap (λ (s : List ℕ). pasted (l .out) s (l .area)) part) (ap (λ (s : List ℕ). l .out + length s) part) (c .stored-after .ensures))
+    let is : c .before .before .before .before .before .before .record-at .result ≡ recordOf (rowAt (g .list .now) (l .i)) = c .before .before .before .before .before .before .record-at .ensures in
+    let part : now (c .before .before .before .before .before .part-of .result) ≡ bytesIn (g .block .now) (g .store .now) (partOf (l .used) (c .before .before .before .before .before .before .record-at .result)) = lent-bytes (c .before .before .before .before .before .part-of .result) (g .block) (g .store) (partOf (l .used) (c .before .before .before .before .before .before .record-at .result)) (c .before .before .before .before .before .part-of .ensures) in
+    (omega arith, copied-next (g .list .now) (g .block .now) (g .store .now) (g .area .now) (c .before .before .before .before .before .before .before .before .before .before .before .before .before .pre) (l .area) n (l .i) (l .used) (l .out) (l .inv .1) (c .before .before .before .before .before .before .record-at .result) is (omega arith) _ _ _ (c .before .before .before .put .ensures ∙ ap (λ (s : List ℕ). pasted (l .out) s (l .area)) part) (ap (λ (s : List ℕ). l .out + length s) part) (c .stored-after .ensures))
 
 same-length : tie.Need-same-length Inv-loop μ-loop
 same-length c = c .before .loop .inv .1 .filling .same
@@ -99,8 +96,7 @@ fill-spec =
     Inv-loop
     μ-loop
     loop-holds
-    row-at-requires
-    record-of-requires
+    record-at-requires
     part-of-requires
     put-requires
     add-out

@@ -2,10 +2,9 @@
 -- 44 bytes. The measure is the number of records left. Assumes nothing.
 use Prim.Native.Nat.{ℕ, _*_, _-_, _/_, _≤_}
 use native.Mathlib.Omega.{arith}
-use mathlib.Core.Path.{_≡_, refl, _∙_, ap}
+use mathlib.Core.Path.{_≡_, refl}
 use mathlib.Core.List.{List}
 use lib.ListN.{length}
-use Rattle.format.specs.Record.{recordOf}
 use Rattle.report.proofs.Composing.{Listed, listed-start, listed-next, listed-end}
 use borrow.Author.Needs.{needs}
 use Rattle.report.proofs.put_records.Statement.{statement}
@@ -28,11 +27,8 @@ loop-holds c =
     let g = c .before .before .args in
     record { in-n = omega arith; same = refl; most = omega arith; listed = listed-start (g .list .now) (g .area .now) }
 
-row-at-requires : tie.Need-row-at-requires Inv-loop μ-loop
-row-at-requires c κs = search needs
-
-record-of-requires : tie.Need-record-of-requires Inv-loop μ-loop
-record-of-requires c κs = search needs
+record-at-requires : tie.Need-record-at-requires Inv-loop μ-loop
+record-at-requires c κs = search needs
 
 put-record-requires : tie.Need-put-record-requires Inv-loop μ-loop
 put-record-requires c κs = search needs
@@ -45,14 +41,14 @@ loop-less c = search needs
 
 loop-again : tie.Need-loop-again Inv-loop μ-loop
 loop-again c =
-    let g = c .before .before .before .before .before .before .before .before .before .before .args in
-    let l = c .before .before .before .before .before .before .before .loop in
+    let g = c .before .before .before .before .before .before .before .before .before .args in
+    let l = c .before .before .before .before .before .before .loop in
     let n = length (g .list .now) / 12 in
     record {
       in-n = omega arith;
       same = search needs;
       most = omega (arith, c .before .before .put-record .ensures .1);
-      listed = listed-next (g .list .now) (g .area .now) (l .area) n (l .i) (l .at) (l .inv .listed) (c .before .before .before .record-of .result) (c .before .before .put-record .result) _ (omega arith) (c .before .before .before .record-of .ensures ∙ ap recordOf (c .before .before .before .before .row-at .ensures)) (c .before .before .put-record .ensures .0);
+      listed = listed-next (g .list .now) (g .area .now) (l .area) n (l .i) (l .at) (l .inv .listed) (c .before .before .before .record-at .result) (c .before .before .put-record .result) _ (omega arith) (c .before .before .before .record-at .ensures) (c .before .before .put-record .ensures .0);
     }
 
 same-length : tie.Need-same-length Inv-loop μ-loop
@@ -72,8 +68,7 @@ put-records-spec =
     Inv-loop
     μ-loop
     loop-holds
-    row-at-requires
-    record-of-requires
+    record-at-requires
     put-record-requires
     add-i
     loop-less

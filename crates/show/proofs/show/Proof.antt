@@ -42,39 +42,36 @@ returns c =
 index-requires : tie.Need-index-requires
 index-requires c κs = search needs
 
-row-at-requires : tie.Need-row-at-requires
-row-at-requires c κs =
+record-at-requires : tie.Need-record-at-requires
+record-at-requires c κs =
     let g = c .before .before .before .before .before .before .before .before .args in
     let fine = fine-of-through (checkRuling (g .list .now) (g .block .now) (g .store .now) (g .k)) (recordsOf (g .list .now)) (c .before .before .w .given .0 .0) (sym (c .before .before .before .before .accept-place .ensures) ∙ c .before .before .w .given .1) .0 in
     let both = checked-parts (g .list .now) (g .block .now) (g .store .now) (g .k) fine in
     omega (arith, both .1, c .index .ensures .0, length-recordsOf (g .list .now))
 
-record-of-requires : tie.Need-record-of-requires
-record-of-requires c κs = search needs
-
 stored-before-requires : tie.Need-stored-before-requires
 stored-before-requires c κs =
-    let g = c .before .before .before .before .before .before .before .before .before .before .args in
-    let fine = fine-of-through (checkRuling (g .list .now) (g .block .now) (g .store .now) (g .k)) (recordsOf (g .list .now)) (c .before .before .before .before .w .given .0 .0) (sym (c .before .before .before .before .before .before .accept-place .ensures) ∙ c .before .before .before .before .w .given .1) .0 in
+    let g = c .before .before .before .before .before .before .before .before .before .args in
+    let fine = fine-of-through (checkRuling (g .list .now) (g .block .now) (g .store .now) (g .k)) (recordsOf (g .list .now)) (c .before .before .before .w .given .0 .0) (sym (c .before .before .before .before .before .accept-place .ensures) ∙ c .before .before .before .w .given .1) .0 in
     let both = checked-parts (g .list .now) (g .block .now) (g .store .now) (g .k) fine in
-    (omega (arith, both .1, c .before .before .index .ensures .0), omega (arith, both .0 .whole-most, stored-most (recordsOf (g .list .now))))
+    (omega (arith, both .1, c .before .index .ensures .0), omega (arith, both .0 .whole-most, stored-most (recordsOf (g .list .now))))
 
 part-of-requires : tie.Need-part-of-requires
 part-of-requires c κs =
-    let g = c .before .before .before .before .before .before .before .before .before .before .before .args in
-    let fine = fine-of-through (checkRuling (g .list .now) (g .block .now) (g .store .now) (g .k)) (recordsOf (g .list .now)) (c .before .before .before .before .before .w .given .0 .0) (sym (c .before .before .before .before .before .before .before .accept-place .ensures) ∙ c .before .before .before .before .before .w .given .1) .0 in
+    let g = c .before .before .before .before .before .before .before .before .before .before .args in
+    let fine = fine-of-through (checkRuling (g .list .now) (g .block .now) (g .store .now) (g .k)) (recordsOf (g .list .now)) (c .before .before .before .before .w .given .0 .0) (sym (c .before .before .before .before .before .before .accept-place .ensures) ∙ c .before .before .before .before .w .given .1) .0 in
     let both = checked-parts (g .list .now) (g .block .now) (g .store .now) (g .k) fine in
-    let is : c .before .record-of .result ≡ getD (recordsOf (g .list .now)) (g .k) (New 0) = c .before .record-of .ensures ∙ ap recordOf (c .before .before .row-at .ensures ∙ ap (rowAt (g .list .now)) (c .before .before .before .index .ensures .0)) ∙ sym (getD-recordsOf (g .list .now) (g .k) (both .1)) in
-    let from : c .stored-before .result ≡ stored (take (g .k) (recordsOf (g .list .now))) = c .stored-before .ensures ∙ ap (λ (j : ℕ). stored (take j (recordsOf (g .list .now)))) (c .before .before .before .index .ensures .0) in
+    let is : c .before .record-at .result ≡ getD (recordsOf (g .list .now)) (g .k) (New 0) = c .before .record-at .ensures ∙ ap (λ (i : ℕ). recordOf (rowAt (g .list .now) i)) (c .before .before .index .ensures .0) ∙ sym (getD-recordsOf (g .list .now) (g .k) (both .1)) in
+    let from : c .stored-before .result ≡ stored (take (g .k) (recordsOf (g .list .now))) = c .stored-before .ensures ∙ ap (λ (j : ℕ). stored (take j (recordsOf (g .list .now)))) (c .before .before .index .ensures .0) in
     rw (is, from) (lies-at (recordsOf (g .list .now)) (g .block .now) (g .store .now) (g .k) (both .0 .inside) (both .0 .block-fits) (both .1))
 
 returns-2 : tie.Need-returns-2
 returns-2 c =
-    let g = c .before .before .before .before .before .before .before .before .before .before .before .before .args in
-    let fine = fine-of-through (checkRuling (g .list .now) (g .block .now) (g .store .now) (g .k)) (recordsOf (g .list .now)) (c .before .before .before .before .before .before .w .given .0 .0) (sym (c .before .before .before .before .before .before .before .before .accept-place .ensures) ∙ c .before .before .before .before .before .before .w .given .1) .0 in
+    let g = c .before .before .before .before .before .before .before .before .before .before .before .args in
+    let fine = fine-of-through (checkRuling (g .list .now) (g .block .now) (g .store .now) (g .k)) (recordsOf (g .list .now)) (c .before .before .before .before .before .w .given .0 .0) (sym (c .before .before .before .before .before .before .before .accept-place .ensures) ∙ c .before .before .before .before .before .w .given .1) .0 in
     let both = checked-parts (g .list .now) (g .block .now) (g .store .now) (g .k) fine in
-    let is : c .before .before .record-of .result ≡ getD (recordsOf (g .list .now)) (g .k) (New 0) = c .before .before .record-of .ensures ∙ ap recordOf (c .before .before .before .row-at .ensures ∙ ap (rowAt (g .list .now)) (c .before .before .before .before .index .ensures .0)) ∙ sym (getD-recordsOf (g .list .now) (g .k) (both .1)) in
-    let from : c .before .stored-before .result ≡ stored (take (g .k) (recordsOf (g .list .now))) = c .before .stored-before .ensures ∙ ap (λ (j : ℕ). stored (take j (recordsOf (g .list .now)))) (c .before .before .before .before .index .ensures .0) in
+    let is : c .before .before .record-at .result ≡ getD (recordsOf (g .list .now)) (g .k) (New 0) = c .before .before .record-at .ensures ∙ ap (λ (i : ℕ). recordOf (rowAt (g .list .now) i)) (c .before .before .before .index .ensures .0) ∙ sym (getD-recordsOf (g .list .now) (g .k) (both .1)) in
+    let from : c .before .stored-before .result ≡ stored (take (g .k) (recordsOf (g .list .now))) = c .before .stored-before .ensures ∙ ap (λ (j : ℕ). stored (take j (recordsOf (g .list .now)))) (c .before .before .before .index .ensures .0) in
     c .part-of .ensures ∙ rw (fine, is, from)
 
 pub show-spec : {M : Type 1} → statement M
@@ -89,8 +86,7 @@ show-spec =
     part-result-end
     returns
     index-requires
-    row-at-requires
-    record-of-requires
+    record-at-requires
     stored-before-requires
     part-of-requires
     returns-2)

@@ -7,7 +7,7 @@ use mathlib.Core.List.{[], _∷_}
 use lib.ListN.{take, getD}
 use Rattle.format.specs.declared.Record.{Record}
 use Rattle.format.specs.declared.Record.the-variants.{New}
-use Rattle.format.specs.Record.{recordOf, recordsOf}
+use Rattle.format.specs.Record.{recordsOf}
 use Rattle.format.specs.Meaning.{stored}
 use Rattle.format.proofs.Rows.{length-recordsOf, getD-recordsOf, stored-take-next, stored-take-most}
 use borrow.Author.Needs.{needs}
@@ -23,18 +23,15 @@ abbrev μ-loop : tie.MeasureT-loop
 loop-holds : tie.Need-loop-holds Inv-loop μ-loop
 loop-holds c = (omega arith, refl)
 
-row-at-requires : tie.Need-row-at-requires Inv-loop μ-loop
-row-at-requires c κs = omega (arith, length-recordsOf (c .before .before .before .args .list .now))
-
-record-of-requires : tie.Need-record-of-requires Inv-loop μ-loop
-record-of-requires c κs = search needs
+record-at-requires : tie.Need-record-at-requires Inv-loop μ-loop
+record-at-requires c κs = omega (arith, length-recordsOf (c .before .before .before .args .list .now))
 
 stored-after-requires : tie.Need-stored-after-requires Inv-loop μ-loop
 stored-after-requires c κs =
-    let l = recordsOf (c .before .before .before .before .before .args .list .now) in
-    let i = c .before .before .before .loop .i in
-    let r : c .record-of .result ≡ getD l i (New 0) = c .record-of .ensures ∙ ap recordOf (c .before .row-at .ensures) ∙ sym (getD-recordsOf (c .before .before .before .before .before .args .list .now) i (omega arith)) in
-    omega (arith, ap (λ (x : Record). stored (x ∷ [])) r, c .before .before .before .loop .inv .1, stored-take-next l i (omega arith), stored-take-most l (i + 1))
+    let l = recordsOf (c .before .before .before .before .args .list .now) in
+    let i = c .before .before .loop .i in
+    let r : c .record-at .result ≡ getD l i (New 0) = c .record-at .ensures ∙ sym (getD-recordsOf (c .before .before .before .before .args .list .now) i (omega arith)) in
+    omega (arith, ap (λ (x : Record). stored (x ∷ [])) r, c .before .before .loop .inv .1, stored-take-next l i (omega arith), stored-take-most l (i + 1))
 
 add-i : tie.Need-add-i Inv-loop μ-loop
 add-i c = search needs
@@ -44,10 +41,10 @@ loop-less c = search needs
 
 loop-again : tie.Need-loop-again Inv-loop μ-loop
 loop-again c =
-    let l = recordsOf (c .before .before .before .before .before .before .args .list .now) in
-    let i = c .before .before .before .before .loop .i in
-    let r : c .before .record-of .result ≡ getD l i (New 0) = c .before .record-of .ensures ∙ ap recordOf (c .before .before .row-at .ensures) ∙ sym (getD-recordsOf (c .before .before .before .before .before .before .args .list .now) i (omega arith)) in
-    (omega arith, omega (arith, c .stored-after .ensures, ap (λ (x : Record). stored (x ∷ [])) r, c .before .before .before .before .loop .inv .1, stored-take-next l i (omega arith)))
+    let l = recordsOf (c .before .before .before .before .before .args .list .now) in
+    let i = c .before .before .before .loop .i in
+    let r : c .before .record-at .result ≡ getD l i (New 0) = c .before .record-at .ensures ∙ sym (getD-recordsOf (c .before .before .before .before .before .args .list .now) i (omega arith)) in
+    (omega arith, omega (arith, c .stored-after .ensures, ap (λ (x : Record). stored (x ∷ [])) r, c .before .before .before .loop .inv .1, stored-take-next l i (omega arith)))
 
 returns : tie.Need-returns Inv-loop μ-loop
 returns c =
@@ -61,8 +58,7 @@ stored-before-spec =
     Inv-loop
     μ-loop
     loop-holds
-    row-at-requires
-    record-of-requires
+    record-at-requires
     stored-after-requires
     add-i
     loop-less

@@ -46,11 +46,8 @@ loop-holds c =
 sub-i : tie.Need-sub-i Inv-loop μ-loop
 sub-i c = search needs
 
-row-at-requires : tie.Need-row-at-requires Inv-loop μ-loop
-row-at-requires c κs = search needs
-
-record-of-requires : tie.Need-record-of-requires Inv-loop μ-loop
-record-of-requires c κs = search needs
+record-at-requires : tie.Need-record-at-requires Inv-loop μ-loop
+record-at-requires c κs = search needs
 
 weigh-requires : tie.Need-weigh-requires Inv-loop μ-loop
 weigh-requires c κs = search needs
@@ -64,24 +61,24 @@ loop-less c = search needs
 loop-again : tie.Need-loop-again Inv-loop μ-loop
 loop-again c =
     let w = c .before .before in
-    let g = w .before .before .before .before .before .before .before .args in
-    let l = w .before .before .before .before .loop in
+    let g = w .before .before .before .before .before .before .args in
+    let l = w .before .before .before .loop in
     let t = w .weigh in
     let p = g .rates in
-    let some : 0 < l .i = w .before .before .before .loop-test .taken in
-    let r : w .before .record-of .result ≡ recordOf (rowAt (g .list .now) (l .i - 1)) = w .before .record-of .ensures ∙ ap recordOf (w .before .before .row-at .ensures) in
+    let some : 0 < l .i = w .before .before .loop-test .taken in
+    let r : w .before .record-at .result ≡ recordOf (rowAt (g .list .now) (l .i - 1)) = w .before .record-at .ensures in
     let b = back-turn p (g .list .now) (g .n) (l .i) (l .kept .0) (l .stored .0) some (l .inv .in-n) (l .inv .kept-is) (l .inv .stored-is) (t .result)
     (t .ensures .is ∙ ap (λ (x : Record). turned p x (l .kept .0) (l .stored .0)) r) in
     record {
       in-n = search needs;
       same = search needs;
-      kept-most = omega (arith, t .ensures .kept-most, l .inv .stored-most, some, w .before .before .before .before .before .before .before .pre .rates-fit .fresh-most);
+      kept-most = omega (arith, t .ensures .kept-most, l .inv .stored-most, some, w .before .before .before .before .before .before .pre .rates-fit .fresh-most);
       stored-most = omega (arith, t .ensures .stored-most, l .inv .stored-most, some);
       kept-is = b .0;
       stored-is = b .1;
       area =
           ap (λ (p : List ℕ). set p (l .i - 1) (t .result .hint)) (l .inv .area)
-          ∙ set-back (g .choice .now) (hintBytes (hintsOf p (recordsFrom (g .list .now) (g .n) (l .i))) ++ drop (g .n) (g .choice .now)) (l .i) (t .result .hint) some (omega (arith, l .inv .in-n, w .before .before .before .before .before .before .before .pre .in-choice))
+          ∙ set-back (g .choice .now) (hintBytes (hintsOf p (recordsFrom (g .list .now) (g .n) (l .i))) ++ drop (g .n) (g .choice .now)) (l .i) (t .result .hint) some (omega (arith, l .inv .in-n, w .before .before .before .before .before .before .pre .in-choice))
           ∙ ap (λ (p : List ℕ). take (l .i - 1) (g .choice .now) ++ (p ++ drop (g .n) (g .choice .now))) (b .2);
     }
 
@@ -106,8 +103,7 @@ backwards-spec =
     μ-loop
     loop-holds
     sub-i
-    row-at-requires
-    record-of-requires
+    record-at-requires
     weigh-requires
     slice-write-choice
     loop-less

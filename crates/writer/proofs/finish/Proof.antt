@@ -1,13 +1,11 @@
 -- `writer::finish` meets its contract: room follows from lengths, and the numbers are those of the list that was written. Assumes nothing.
-use Prim.Native.Nat.{ℕ, _-_, _/_, _≤_}
+use Prim.Native.Nat.{_-_, _/_}
 use native.Mathlib.Omega.{arith}
 use mathlib.Core.Path.{_≡_, sym, _∙_, ap}
-use mathlib.Core.List.{List}
 use lib.ListN.{length, take}
 use Rattle.format.specs.Record.{recordsOf, encode}
 use Rattle.format.specs.Meaning.{stored}
 use Rattle.format.proofs.Encoding.{length-encode, records-encode}
-use Rattle.area.specs.Area.{over}
 use Rattle.area.proofs.Filling.{front, front-room}
 use Rattle.price.specs.Price.{cost}
 use Rattle.writer.specs.Write.{listIn}

@@ -24,14 +24,11 @@ loop-holds c =
     let g = c .before .before .before .before .args in
     (omega arith, storing-start (g .list .now) (g .choice .now) (g .version .now) (g .block-area .now) (c .before .before .before .before .pre))
 
-row-at-requires : tie.Need-row-at-requires Inv-loop μ-loop
-row-at-requires c κs = search needs
-
-record-of-requires : tie.Need-record-of-requires Inv-loop μ-loop
-record-of-requires c κs = search needs
+record-at-requires : tie.Need-record-at-requires Inv-loop μ-loop
+record-at-requires c κs = search needs
 
 shared-slice-read-chosen : tie.Need-shared-slice-read-chosen Inv-loop μ-loop
-shared-slice-read-chosen c = omega (arith, c .before .before .before .before .before .before .before .before .before .pre .in-choice)
+shared-slice-read-chosen c = omega (arith, c .before .before .before .before .before .before .before .before .pre .in-choice)
 
 chosen-requires : tie.Need-chosen-requires Inv-loop μ-loop
 chosen-requires c κs = search needs
@@ -44,12 +41,12 @@ index-requires c κs = search needs
 
 add-at : tie.Need-add-at Inv-loop μ-loop
 add-at c =
-    let g = c .before .before .before .before .before .before .before .before .before .before .before .before .args in
-    let l = c .before .before .before .before .before .before .before .loop in
+    let g = c .before .before .before .before .before .before .before .before .before .before .before .args in
+    let l = c .before .before .before .before .before .before .loop in
     let n = length (g .list .now) / 12 in
-    let is : c .before .before .chosen .result ≡ chosenRecord (bitAt (g .choice .now) (l .i)) (recordOf (rowAt (g .list .now) (l .i))) = c .before .before .chosen .ensures ∙ ap (chosenRecord (bitAt (g .choice .now) (l .i))) (c .before .before .before .before .record-of .ensures ∙ ap recordOf (c .before .before .before .before .before .row-at .ensures)) in
+    let is : c .before .before .chosen .result ≡ chosenRecord (bitAt (g .choice .now) (l .i)) (recordOf (rowAt (g .list .now) (l .i))) = c .before .before .chosen .ensures ∙ ap (chosenRecord (bitAt (g .choice .now) (l .i))) (c .before .before .before .before .record-at .ensures) in
     let size : c .index .result ≡ sizeOf (c .before .before .chosen .result) = c .index .ensures .0 ∙ c .before .size-of .ensures in
-    omega (arith, size, storing-size (g .list .now) (g .choice .now) (g .version .now) (g .block-area .now) (c .before .before .before .before .before .before .before .before .before .before .before .before .pre) (l .block-area) n (l .i) (l .at) (l .out) (l .inv .1) (c .before .before .chosen .result) is (omega arith))
+    omega (arith, size, storing-size (g .list .now) (g .choice .now) (g .version .now) (g .block-area .now) (c .before .before .before .before .before .before .before .before .before .before .before .pre) (l .block-area) n (l .i) (l .at) (l .out) (l .inv .1) (c .before .before .chosen .result) is (omega arith))
 
 add-i : tie.Need-add-i Inv-loop μ-loop
 add-i c = search needs
@@ -65,48 +62,48 @@ part-part-start c = search needs
 
 part-part-end : tie.Need-part-part-end Inv-loop μ-loop
 part-part-end c =
-    let g = c .before .before .before .before .before .before .before .before .before .before .before .before .before .before .args in
-    let l = c .before .before .before .before .before .before .before .before .before .loop in
+    let g = c .before .before .before .before .before .before .before .before .before .before .before .before .before .args in
+    let l = c .before .before .before .before .before .before .before .before .loop in
     let n = length (g .list .now) / 12 in
-    let is : c .before .before .before .before .chosen .result ≡ chosenRecord (bitAt (g .choice .now) (l .i)) (recordOf (rowAt (g .list .now) (l .i))) = c .before .before .before .before .chosen .ensures ∙ ap (chosenRecord (bitAt (g .choice .now) (l .i))) (c .before .before .before .before .before .before .record-of .ensures ∙ ap recordOf (c .before .before .before .before .before .before .before .row-at .ensures)) in
+    let is : c .before .before .before .before .chosen .result ≡ chosenRecord (bitAt (g .choice .now) (l .i)) (recordOf (rowAt (g .list .now) (l .i))) = c .before .before .before .before .chosen .ensures ∙ ap (chosenRecord (bitAt (g .choice .now) (l .i))) (c .before .before .before .before .before .before .record-at .ensures) in
     let size : c .before .before .index .result ≡ sizeOf (c .before .before .before .before .chosen .result) = c .before .before .index .ensures .0 ∙ c .before .before .before .size-of .ensures in
-    omega (arith, size, storing-size (g .list .now) (g .choice .now) (g .version .now) (g .block-area .now) (c .before .before .before .before .before .before .before .before .before .before .before .before .before .before .pre) (l .block-area) n (l .i) (l .at) (l .out) (l .inv .1) (c .before .before .before .before .chosen .result) is (omega arith))
+    omega (arith, size, storing-size (g .list .now) (g .choice .now) (g .version .now) (g .block-area .now) (c .before .before .before .before .before .before .before .before .before .before .before .before .before .pre) (l .block-area) n (l .i) (l .at) (l .out) (l .inv .1) (c .before .before .before .before .chosen .result) is (omega arith))
 
 put-requires : tie.Need-put-requires Inv-loop μ-loop
 put-requires c κs =
-    let g = c .before .before .before .before .before .before .before .before .before .before .before .before .before .before .before .before .args in
-    let l = c .before .before .before .before .before .before .before .before .before .before .before .loop in
+    let g = c .before .before .before .before .before .before .before .before .before .before .before .before .before .before .before .args in
+    let l = c .before .before .before .before .before .before .before .before .before .before .loop in
     let n = length (g .list .now) / 12 in
-    let is : c .before .before .before .before .before .before .chosen .result ≡ chosenRecord (bitAt (g .choice .now) (l .i)) (recordOf (rowAt (g .list .now) (l .i))) = c .before .before .before .before .before .before .chosen .ensures ∙ ap (chosenRecord (bitAt (g .choice .now) (l .i))) (c .before .before .before .before .before .before .before .before .record-of .ensures ∙ ap recordOf (c .before .before .before .before .before .before .before .before .before .row-at .ensures)) in
+    let is : c .before .before .before .before .before .before .chosen .result ≡ chosenRecord (bitAt (g .choice .now) (l .i)) (recordOf (rowAt (g .list .now) (l .i))) = c .before .before .before .before .before .before .chosen .ensures ∙ ap (chosenRecord (bitAt (g .choice .now) (l .i))) (c .before .before .before .before .before .before .before .before .record-at .ensures) in
     let size : c .before .before .before .before .index .result ≡ sizeOf (c .before .before .before .before .before .before .chosen .result) = c .before .before .before .before .index .ensures .0 ∙ c .before .before .before .before .before .size-of .ensures in
     let more : l .at + c .before .before .before .before .index .result - l .at ≡ c .before .before .enum-told .given .0 .0 = omega (arith, size, ap sizeOf (c .before .before .enum-told .given .1)) in
     let part : take (l .at + c .before .before .before .before .index .result - l .at) (drop (l .at) (g .version .now)) ≡ take (c .before .before .enum-told .given .0 .0) (drop (l .at) (g .version .now)) = ap (λ (k : ℕ). take k (drop (l .at) (g .version .now))) more in
-    omega (arith, storing-room (g .list .now) (g .choice .now) (g .version .now) (g .block-area .now) (c .before .before .before .before .before .before .before .before .before .before .before .before .before .before .before .before .pre) (l .block-area) n (l .i) (l .at) (l .out) (l .inv .1) (c .before .before .before .before .before .before .chosen .result) is (omega arith) (c .before .before .enum-told .given .0 .0) (c .before .before .enum-told .given .1), ap length part, part-length (g .list .now) (g .choice .now) (g .version .now) (g .block-area .now) (c .before .before .before .before .before .before .before .before .before .before .before .before .before .before .before .before .pre) (l .block-area) n (l .i) (l .at) (l .out) (l .inv .1) (c .before .before .before .before .before .before .chosen .result) is (omega arith) (c .before .before .enum-told .given .0 .0) (c .before .before .enum-told .given .1))
+    omega (arith, storing-room (g .list .now) (g .choice .now) (g .version .now) (g .block-area .now) (c .before .before .before .before .before .before .before .before .before .before .before .before .before .before .before .pre) (l .block-area) n (l .i) (l .at) (l .out) (l .inv .1) (c .before .before .before .before .before .before .chosen .result) is (omega arith) (c .before .before .enum-told .given .0 .0) (c .before .before .enum-told .given .1), ap length part, part-length (g .list .now) (g .choice .now) (g .version .now) (g .block-area .now) (c .before .before .before .before .before .before .before .before .before .before .before .before .before .before .before .pre) (l .block-area) n (l .i) (l .at) (l .out) (l .inv .1) (c .before .before .before .before .before .before .chosen .result) is (omega arith) (c .before .before .enum-told .given .0 .0) (c .before .before .enum-told .given .1))
 
 add-out : tie.Need-add-out Inv-loop μ-loop
 add-out c =
-    let g = c .before .before .before .before .before .before .before .before .before .before .before .before .before .before .before .before .before .before .before .args in
-    let l = c .before .before .before .before .before .before .before .before .before .before .before .before .before .before .loop in
+    let g = c .before .before .before .before .before .before .before .before .before .before .before .before .before .before .before .before .before .before .args in
+    let l = c .before .before .before .before .before .before .before .before .before .before .before .before .before .loop in
     let n = length (g .list .now) / 12 in
-    let is : c .before .before .before .before .before .before .before .before .before .chosen .result ≡ chosenRecord (bitAt (g .choice .now) (l .i)) (recordOf (rowAt (g .list .now) (l .i))) = c .before .before .before .before .before .before .before .before .before .chosen .ensures ∙ ap (chosenRecord (bitAt (g .choice .now) (l .i))) (c .before .before .before .before .before .before .before .before .before .before .before .record-of .ensures ∙ ap recordOf (c .before .before .before .before .before .before .before .before .before .before .before .before .row-at .ensures)) in
+    let is : c .before .before .before .before .before .before .before .before .before .chosen .result ≡ chosenRecord (bitAt (g .choice .now) (l .i)) (recordOf (rowAt (g .list .now) (l .i))) = c .before .before .before .before .before .before .before .before .before .chosen .ensures ∙ ap (chosenRecord (bitAt (g .choice .now) (l .i))) (c .before .before .before .before .before .before .before .before .before .before .before .record-at .ensures) in
     let size : c .before .before .before .before .before .before .before .index .result ≡ sizeOf (c .before .before .before .before .before .before .before .before .before .chosen .result) = c .before .before .before .before .before .before .before .index .ensures .0 ∙ c .before .before .before .before .before .before .before .before .size-of .ensures in
     let more : l .at + c .before .before .before .before .before .before .before .index .result - l .at ≡ c .before .before .before .before .before .enum-told .given .0 .0 = omega (arith, size, ap sizeOf (c .before .before .before .before .before .enum-told .given .1)) in
     let part : take (l .at + c .before .before .before .before .before .before .before .index .result - l .at) (drop (l .at) (g .version .now)) ≡ take (c .before .before .before .before .before .enum-told .given .0 .0) (drop (l .at) (g .version .now)) = ap (λ (k : ℕ). take k (drop (l .at) (g .version .now))) more in
-    omega (arith, storing-room (g .list .now) (g .choice .now) (g .version .now) (g .block-area .now) (c .before .before .before .before .before .before .before .before .before .before .before .before .before .before .before .before .before .before .before .pre) (l .block-area) n (l .i) (l .at) (l .out) (l .inv .1) (c .before .before .before .before .before .before .before .before .before .chosen .result) is (omega arith) (c .before .before .before .before .before .enum-told .given .0 .0) (c .before .before .before .before .before .enum-told .given .1), ap length part, part-length (g .list .now) (g .choice .now) (g .version .now) (g .block-area .now) (c .before .before .before .before .before .before .before .before .before .before .before .before .before .before .before .before .before .before .before .pre) (l .block-area) n (l .i) (l .at) (l .out) (l .inv .1) (c .before .before .before .before .before .before .before .before .before .chosen .result) is (omega arith) (c .before .before .before .before .before .enum-told .given .0 .0) (c .before .before .before .before .before .enum-told .given .1), l .inv .1 .filling .same, c .before .before .before .before .before .before .before .before .before .before .before .before .before .before .before .before .before .before .before .good)
+    omega (arith, storing-room (g .list .now) (g .choice .now) (g .version .now) (g .block-area .now) (c .before .before .before .before .before .before .before .before .before .before .before .before .before .before .before .before .before .before .pre) (l .block-area) n (l .i) (l .at) (l .out) (l .inv .1) (c .before .before .before .before .before .before .before .before .before .chosen .result) is (omega arith) (c .before .before .before .before .before .enum-told .given .0 .0) (c .before .before .before .before .before .enum-told .given .1), ap length part, part-length (g .list .now) (g .choice .now) (g .version .now) (g .block-area .now) (c .before .before .before .before .before .before .before .before .before .before .before .before .before .before .before .before .before .before .pre) (l .block-area) n (l .i) (l .at) (l .out) (l .inv .1) (c .before .before .before .before .before .before .before .before .before .chosen .result) is (omega arith) (c .before .before .before .before .before .enum-told .given .0 .0) (c .before .before .before .before .before .enum-told .given .1), l .inv .1 .filling .same, c .before .before .before .before .before .before .before .before .before .before .before .before .before .before .before .before .before .before .good)
 
 loop-less : tie.Need-loop-less Inv-loop μ-loop
 loop-less c = search needs
 
 loop-again : tie.Need-loop-again Inv-loop μ-loop
 loop-again c =
-    let g = c .before .before .before .before .before .before .before .before .before .before .before .before .before .before .before .before .before .before .before .args in
-    let l = c .before .before .before .before .before .before .before .before .before .before .before .before .before .before .loop in
+    let g = c .before .before .before .before .before .before .before .before .before .before .before .before .before .before .before .before .before .before .args in
+    let l = c .before .before .before .before .before .before .before .before .before .before .before .before .before .loop in
     let n = length (g .list .now) / 12 in
-    let is : c .before .before .before .before .before .before .before .before .before .chosen .result ≡ chosenRecord (bitAt (g .choice .now) (l .i)) (recordOf (rowAt (g .list .now) (l .i))) = c .before .before .before .before .before .before .before .before .before .chosen .ensures ∙ ap (chosenRecord (bitAt (g .choice .now) (l .i))) (c .before .before .before .before .before .before .before .before .before .before .before .record-of .ensures ∙ ap recordOf (c .before .before .before .before .before .before .before .before .before .before .before .before .row-at .ensures)) in
+    let is : c .before .before .before .before .before .before .before .before .before .chosen .result ≡ chosenRecord (bitAt (g .choice .now) (l .i)) (recordOf (rowAt (g .list .now) (l .i))) = c .before .before .before .before .before .before .before .before .before .chosen .ensures ∙ ap (chosenRecord (bitAt (g .choice .now) (l .i))) (c .before .before .before .before .before .before .before .before .before .before .before .record-at .ensures) in
     let size : c .before .before .before .before .before .before .before .index .result ≡ sizeOf (c .before .before .before .before .before .before .before .before .before .chosen .result) = c .before .before .before .before .before .before .before .index .ensures .0 ∙ c .before .before .before .before .before .before .before .before .size-of .ensures in
     let more : l .at + c .before .before .before .before .before .before .before .index .result - l .at ≡ c .before .before .before .before .before .enum-told .given .0 .0 = omega (arith, size, ap sizeOf (c .before .before .before .before .before .enum-told .given .1)) in
     let part : take (l .at + c .before .before .before .before .before .before .before .index .result - l .at) (drop (l .at) (g .version .now)) ≡ take (c .before .before .before .before .before .enum-told .given .0 .0) (drop (l .at) (g .version .now)) = ap (λ (k : ℕ). take k (drop (l .at) (g .version .now))) more in
-    (omega arith, storing-new (g .list .now) (g .choice .now) (g .version .now) (g .block-area .now) (c .before .before .before .before .before .before .before .before .before .before .before .before .before .before .before .before .before .before .before .pre) (l .block-area) n (l .i) (l .at) (l .out) (l .inv .1) (c .before .before .before .before .before .before .before .before .before .chosen .result) is (omega arith) (c .before .before .before .before .before .enum-told .given .0 .0) (c .before .before .before .before .before .enum-told .given .1) _ _ _ _ part (c .before .before .put .ensures) (ap (λ (k : ℕ). l .at + k) size) refl)
+    (omega arith, storing-new (g .list .now) (g .choice .now) (g .version .now) (g .block-area .now) (c .before .before .before .before .before .before .before .before .before .before .before .before .before .before .before .before .before .before .pre) (l .block-area) n (l .i) (l .at) (l .out) (l .inv .1) (c .before .before .before .before .before .before .before .before .before .chosen .result) is (omega arith) (c .before .before .before .before .before .enum-told .given .0 .0) (c .before .before .before .before .before .enum-told .given .1) _ _ _ _ part (c .before .before .put .ensures) (ap (λ (k : ℕ). l .at + k) size) refl)
 
 enum-told-2 : tie.Need-enum-told-2 Inv-loop μ-loop
 enum-told-2 c = search needs
@@ -116,12 +113,12 @@ loop-less-2 c = search needs
 
 loop-again-2 : tie.Need-loop-again-2 Inv-loop μ-loop
 loop-again-2 c =
-    let g = c .before .before .before .before .before .before .before .before .before .before .before .before .before .before .args in
-    let l = c .before .before .before .before .before .before .before .before .before .loop in
+    let g = c .before .before .before .before .before .before .before .before .before .before .before .before .before .args in
+    let l = c .before .before .before .before .before .before .before .before .loop in
     let n = length (g .list .now) / 12 in
-    let is : c .before .before .before .before .chosen .result ≡ chosenRecord (bitAt (g .choice .now) (l .i)) (recordOf (rowAt (g .list .now) (l .i))) = c .before .before .before .before .chosen .ensures ∙ ap (chosenRecord (bitAt (g .choice .now) (l .i))) (c .before .before .before .before .before .before .record-of .ensures ∙ ap recordOf (c .before .before .before .before .before .before .before .row-at .ensures)) in
+    let is : c .before .before .before .before .chosen .result ≡ chosenRecord (bitAt (g .choice .now) (l .i)) (recordOf (rowAt (g .list .now) (l .i))) = c .before .before .before .before .chosen .ensures ∙ ap (chosenRecord (bitAt (g .choice .now) (l .i))) (c .before .before .before .before .before .before .record-at .ensures) in
     let size : c .before .before .index .result ≡ sizeOf (c .before .before .before .before .chosen .result) = c .before .before .index .ensures .0 ∙ c .before .before .before .size-of .ensures in
-    (omega arith, storing-match (g .list .now) (g .choice .now) (g .version .now) (g .block-area .now) (c .before .before .before .before .before .before .before .before .before .before .before .before .before .before .pre) (l .block-area) n (l .i) (l .at) (l .out) (l .inv .1) (c .before .before .before .before .chosen .result) is (omega arith) (c .enum-told2 .given .0 .0) (c .enum-told2 .given .0 .1 .0) _ (c .enum-told2 .given .1) (ap (λ (k : ℕ). l .at + k) size))
+    (omega arith, storing-match (g .list .now) (g .choice .now) (g .version .now) (g .block-area .now) (c .before .before .before .before .before .before .before .before .before .before .before .before .before .pre) (l .block-area) n (l .i) (l .at) (l .out) (l .inv .1) (c .before .before .before .before .chosen .result) is (omega arith) (c .enum-told2 .given .0 .0) (c .enum-told2 .given .0 .1 .0) _ (c .enum-told2 .given .1) (ap (λ (k : ℕ). l .at + k) size))
 
 same-length : tie.Need-same-length Inv-loop μ-loop
 same-length c = c .before .loop .inv .1 .filling .same
@@ -140,8 +137,7 @@ write-block-spec =
     Inv-loop
     μ-loop
     loop-holds
-    row-at-requires
-    record-of-requires
+    record-at-requires
     shared-slice-read-chosen
     chosen-requires
     size-of-requires

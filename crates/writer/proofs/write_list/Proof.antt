@@ -22,25 +22,22 @@ loop-holds c =
     let g = c .before .before .before .args in
     (omega arith, listing-start (g .list .now) (g .choice .now) (g .list-area .now) (c .before .before .before .pre))
 
-row-at-requires : tie.Need-row-at-requires Inv-loop μ-loop
-row-at-requires c κs = search needs
-
-record-of-requires : tie.Need-record-of-requires Inv-loop μ-loop
-record-of-requires c κs = search needs
+record-at-requires : tie.Need-record-at-requires Inv-loop μ-loop
+record-at-requires c κs = search needs
 
 shared-slice-read-chosen : tie.Need-shared-slice-read-chosen Inv-loop μ-loop
-shared-slice-read-chosen c = omega (arith, c .before .before .before .before .before .before .before .before .pre .in-choice)
+shared-slice-read-chosen c = omega (arith, c .before .before .before .before .before .before .before .pre .in-choice)
 
 chosen-requires : tie.Need-chosen-requires Inv-loop μ-loop
 chosen-requires c κs = search needs
 
 emit-requires : tie.Need-emit-requires Inv-loop μ-loop
 emit-requires c κs =
-    let g = c .before .before .before .before .before .before .before .before .before .before .args in
-    let l = c .before .before .before .before .before .before .loop in
+    let g = c .before .before .before .before .before .before .before .before .before .args in
+    let l = c .before .before .before .before .before .loop in
     let n = length (g .list .now) / 12 in
-    let is : c .before .chosen .result ≡ chosenRecord (bitAt (g .choice .now) (l .i)) (recordOf (rowAt (g .list .now) (l .i))) = c .before .chosen .ensures ∙ ap (chosenRecord (bitAt (g .choice .now) (l .i))) (c .before .before .before .record-of .ensures ∙ ap recordOf (c .before .before .before .before .row-at .ensures)) in
-    (listing-room (g .list .now) (g .choice .now) (g .list-area .now) (c .before .before .before .before .before .before .before .before .before .before .pre) (l .list-area) n (l .i) (l .out) (l .last) (l .inv .1) (c .before .chosen .result) is (omega arith), omega (arith, listing-size (g .list .now) (g .choice .now) (g .list-area .now) (c .before .before .before .before .before .before .before .before .before .before .pre) (l .list-area) n (l .i) (l .out) (l .last) (l .inv .1) (c .before .chosen .result) is (omega arith)))
+    let is : c .before .chosen .result ≡ chosenRecord (bitAt (g .choice .now) (l .i)) (recordOf (rowAt (g .list .now) (l .i))) = c .before .chosen .ensures ∙ ap (chosenRecord (bitAt (g .choice .now) (l .i))) (c .before .before .before .record-at .ensures) in
+    (listing-room (g .list .now) (g .choice .now) (g .list-area .now) (c .before .before .before .before .before .before .before .before .before .pre) (l .list-area) n (l .i) (l .out) (l .last) (l .inv .1) (c .before .chosen .result) is (omega arith), omega (arith, listing-size (g .list .now) (g .choice .now) (g .list-area .now) (c .before .before .before .before .before .before .before .before .before .pre) (l .list-area) n (l .i) (l .out) (l .last) (l .inv .1) (c .before .chosen .result) is (omega arith)))
 
 add-i : tie.Need-add-i Inv-loop μ-loop
 add-i c = search needs
@@ -50,11 +47,11 @@ loop-less c = search needs
 
 loop-again : tie.Need-loop-again Inv-loop μ-loop
 loop-again c =
-    let g = c .before .before .before .before .before .before .before .before .before .before .before .before .before .args in
-    let l = c .before .before .before .before .before .before .before .before .before .loop in
+    let g = c .before .before .before .before .before .before .before .before .before .before .before .before .args in
+    let l = c .before .before .before .before .before .before .before .before .loop in
     let n = length (g .list .now) / 12 in
-    let is : c .before .before .before .before .chosen .result ≡ chosenRecord (bitAt (g .choice .now) (l .i)) (recordOf (rowAt (g .list .now) (l .i))) = c .before .before .before .before .chosen .ensures ∙ ap (chosenRecord (bitAt (g .choice .now) (l .i))) (c .before .before .before .before .before .before .record-of .ensures ∙ ap recordOf (c .before .before .before .before .before .before .before .row-at .ensures)) in
-    (omega arith, listing-next (g .list .now) (g .choice .now) (g .list-area .now) (c .before .before .before .before .before .before .before .before .before .before .before .before .before .pre) (l .list-area) n (l .i) (l .out) (l .last) (l .inv .1) (c .before .before .before .before .chosen .result) is (omega arith) _ _ _ (c .before .before .emit .ensures .area-after) (c .before .before .emit .ensures .out-is) (c .before .before .emit .ensures .last-is))
+    let is : c .before .before .before .before .chosen .result ≡ chosenRecord (bitAt (g .choice .now) (l .i)) (recordOf (rowAt (g .list .now) (l .i))) = c .before .before .before .before .chosen .ensures ∙ ap (chosenRecord (bitAt (g .choice .now) (l .i))) (c .before .before .before .before .before .before .record-at .ensures) in
+    (omega arith, listing-next (g .list .now) (g .choice .now) (g .list-area .now) (c .before .before .before .before .before .before .before .before .before .before .before .before .pre) (l .list-area) n (l .i) (l .out) (l .last) (l .inv .1) (c .before .before .before .before .chosen .result) is (omega arith) _ _ _ (c .before .before .emit .ensures .area-after) (c .before .before .emit .ensures .out-is) (c .before .before .emit .ensures .last-is))
 
 flush-requires : tie.Need-flush-requires Inv-loop μ-loop
 flush-requires c κs =
@@ -80,8 +77,7 @@ write-list-spec =
     Inv-loop
     μ-loop
     loop-holds
-    row-at-requires
-    record-of-requires
+    record-at-requires
     shared-slice-read-chosen
     chosen-requires
     emit-requires
