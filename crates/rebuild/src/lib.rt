@@ -1,6 +1,6 @@
 // The call rebuild: the version that a list, its stored block and the store stand for.
-ghost use Rattle.rebuild.specs.Rebuild.{Rebuilt, Ready, filled};
 ghost use mathlib.Core.Path.{_≡_};
+ghost use Rattle.rebuild.specs.Rebuild.{Rebuilt, Ready, filled};
 use format::Answer;
 use format::Fault;
 use walk::Walked;

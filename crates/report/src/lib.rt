@@ -1,6 +1,6 @@
 // The text of the program `partition`, made in a lent area: the written records, one line of figures; or a refusal; or the name of a bad file.
 ghost use mathlib.Core.Path.{_≡_};
-ghost use Prim.Native.Nat.{_+_, _*_, _/_, _≤_, _<_};
+ghost use Prim.Native.Nat.{_+_, _*_, _/_, _≤_};
 ghost use lib.ListN.{length};
 ghost use Rattle.format.specs.Record.{recordsOf};
 ghost use Rattle.report.specs.Text.{decimal, field, lastField, recordText, recordsText, leastText, passText, reportText, refusalText, badFileText, Written};

@@ -3,7 +3,7 @@
 // From the rear: the least cost of what follows a kept and a stored record, and for each record two bits, what to do after either.
 // From the front: each pair of bits becomes the choice byte.
 ghost use mathlib.Core.Path.{_≡_};
-ghost use Prim.Native.Nat.{_+_, _/_, _≤_, _<_};
+ghost use Prim.Native.Nat.{_/_, _≤_};
 ghost use lib.ListN.{length};
 ghost use Rattle.price.specs.Price.{RatesFit};
 ghost use Rattle.sweep.specs.Sweep.{Turned, Room, Back, nextBit, forwards, LeastIn};

@@ -3,7 +3,7 @@
 // One walk serves every call; its scope says which checks the call has the inputs for.
 ghost use mathlib.Core.Path.{_≡_};
 ghost use mathlib.Core.Bool.{false};
-ghost use Prim.Native.Nat.{_+_, _-_, _≤_, _<_};
+ghost use Prim.Native.Nat.{_+_, _≤_, _<_};
 ghost use lib.ListN.{length, take, drop};
 ghost use Rattle.format.specs.Refusal.{refuse};
 ghost use Rattle.format.specs.Record.{recordsOf, isNew};

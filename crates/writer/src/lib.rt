@@ -1,5 +1,4 @@
 // Writing what a choice makes of a list: its list, its stored block, and the figures of both.
-ghost use Prim.Native.Nat.{_+_, _/_, _<_};
 ghost use Rattle.writer.specs.Write.{ListReady, ListWritten, BlockReady, BlockWritten};
 ghost use Rattle.writer.specs.Decide.{Finishable, Finished};
 use format::Answer;
