@@ -23,78 +23,55 @@ fn hand_on<'a>(
     store: &'a [u8],
     out: &mut [u8],
     choice2: &mut [u8],
-    list_area2: &mut [u8],
-    block_area2: &mut [u8],
+    list2: &mut [u8],
+    block2: &mut [u8],
 ) -> Both
     ensures { λ r. ⌜ Rebuilt (now (list .entry)) (now (block .entry)) (now (store .entry)) (now (out .entry)) (r .rebuilt) (now (out .exit)) ⌝ }
-    ensures { λ r. ⌜ Partitioned price (now (list .entry)) (now (version .entry)) (now (store .entry)) (areas (now (choice2 .entry)) (now («list_area2» .entry)) (now («block_area2» .entry))) (r .again) (areas (now (choice2 .exit)) (now («list_area2» .exit)) (now («block_area2» .exit))) ⌝ }
+    ensures { λ r. ⌜ Partitioned price (now (list .entry)) (now (version .entry)) (now (store .entry)) (areas (now (choice2 .entry)) (now (list2 .entry)) (now (block2 .entry))) (r .again) (areas (now (choice2 .exit)) (now (list2 .exit)) (now (block2 .exit))) ⌝ }
 {
     let rebuilt = rebuild::rebuild(list, block, store, out);
-    let again = call_partition::partition(
-        price,
-        list,
-        version,
-        store,
-        choice2,
-        list_area2,
-        block_area2,
-    );
+    let again = call_partition::partition(price, list, version, store, choice2, list2, block2);
     Both { rebuilt, again }
 }
 
-// The four calls, one after the other. What a refused partition wrote is an empty list with an empty block.
+// The four calls, one after the other: areas 1 are lent to the first partition, 2 to the second, 3 to the pass. What a refused partition wrote
+// is an empty list with an empty block.
 pub fn demonstrate<'a>(
     price: Price,
     list: &[u8],
     version: &'a [u8],
     store: &'a [u8],
-    choice: &mut [u8],
-    list_area: &mut [u8],
-    block_area: &mut [u8],
+    choice1: &mut [u8],
+    list1: &mut [u8],
+    block1: &mut [u8],
     out: &mut [u8],
     choice2: &mut [u8],
-    list_area2: &mut [u8],
-    block_area2: &mut [u8],
+    list2: &mut [u8],
+    block2: &mut [u8],
     choice3: &mut [u8],
-    list_area3: &mut [u8],
-    block_area3: &mut [u8],
+    list3: &mut [u8],
+    block3: &mut [u8],
 ) -> Answers
-    ensures { λ r. ⌜ Demonstrated price (now (list .entry)) (now (version .entry)) (now (store .entry)) (callsOf r (areas (now (choice .entry)) (now («list_area» .entry)) (now («block_area» .entry))) (areas (now (choice .exit)) (now («list_area» .exit)) (now («block_area» .exit))) (now (out .entry)) (now (out .exit)) (areas (now (choice2 .entry)) (now («list_area2» .entry)) (now («block_area2» .entry))) (areas (now (choice2 .exit)) (now («list_area2» .exit)) (now («block_area2» .exit))) (areas (now (choice3 .entry)) (now («list_area3» .entry)) (now («block_area3» .entry))) (areas (now (choice3 .exit)) (now («list_area3» .exit)) (now («block_area3» .exit)))) ⌝ }
+    ensures { λ r. ⌜ Demonstrated price (now (list .entry)) (now (version .entry)) (now (store .entry)) (callsOf r (areas (now (choice1 .entry)) (now (list1 .entry)) (now (block1 .entry))) (areas (now (choice1 .exit)) (now (list1 .exit)) (now (block1 .exit))) (now (out .entry)) (now (out .exit)) (areas (now (choice2 .entry)) (now (list2 .entry)) (now (block2 .entry))) (areas (now (choice2 .exit)) (now (list2 .exit)) (now (block2 .exit))) (areas (now (choice3 .entry)) (now (list3 .entry)) (now (block3 .entry))) (areas (now (choice3 .exit)) (now (list3 .exit)) (now (block3 .exit)))) ⌝ }
 {
-    let first = call_partition::partition(
-        price,
-        list,
-        version,
-        store,
-        choice,
-        list_area,
-        block_area,
-    );
+    let first = call_partition::partition(price, list, version, store, choice1, list1, block1);
     let figures = format::figures_of(first);
     let n = 12 * format::index(figures.entries);
     let m = format::index(figures.stored);
     let both = hand_on(
         price,
-        &list_area[0..n],
-        &block_area[0..m],
+        &list1[0..n],
+        &block1[0..m],
         version,
         store,
         out,
         choice2,
-        list_area2,
-        block_area2,
+        list2,
+        block2,
     );
     let rebuilt = both.rebuilt;
     let again = both.again;
-    let passed = call_pass::pass(
-        price,
-        list,
-        version,
-        store,
-        choice3,
-        list_area3,
-        block_area3,
-    );
+    let passed = call_pass::pass(price, list, version, store, choice3, list3, block3);
     Answers {
         first,
         rebuilt,
