@@ -21,7 +21,7 @@
  *   OFFSET  SIZE  FIELD
  *   0       4     number: 0 accepted, else why it was refused (below)
  *   4       4     place: the record concerned, counted from 0; 0 where no record is
- *   8       8     cost, in disk bytes
+ *   8       8     cost, in 256ths of a disk byte
  *   16      4     entries: records of the list
  *   20      4     stored bytes: the sizes of new records together
  *   24      4     looks
@@ -30,6 +30,9 @@
  * An answer area under 32 bytes: 9 is returned before any other check, and nothing is written anywhere.
  *
  * ON REFUSAL the answer area holds number and place, and no other area changes.
+ *
+ * THE PRICE is E, how many index bytes an entry takes, and F, how many 256ths of a disk byte one index byte is worth: F = 256 is one disk
+ * byte, 384 is one and a half. An entry costs P = F * E, a stored byte 256, and every cost is in this unit.
  *
  * THE LIST: 0 to 4,096 records of 12 bytes, in the order of the version. Two new records never stand next to each other.
  *
@@ -72,11 +75,14 @@ extern "C" {
 #define ANSWER_BYTES 32
 
 /* The version of this library: it grows when a call, an answer or a number changes. */
-#define CONTROLLER_VERSION 1
+#define CONTROLLER_VERSION 2
 
 /* E is 1 to E_MOST, F is 1 to F_MOST. */
 #define E_MOST 255
 #define F_MOST 65535
+
+/* What a disk byte costs: F and costs are in parts of it. */
+#define DISK_BYTE 256
 
 /* The kinds of a record. */
 #define KIND_NEW 0
@@ -141,8 +147,8 @@ static inline uint32_t answer_whole(const uint8_t *answer) { return answer_word(
 
 /* measure - what a list costs.
  *
- * Does: adds up a list: its records, the sizes of its new records, all its sizes, and its cost at the price of E index bytes for an
- *   entry and F disk bytes for an index byte: F * E * entries + stored bytes.
+ * Does: adds up a list: its records, the sizes of its new records, all its sizes, and its cost at the price of E and F:
+ *   F * E * entries + 256 * stored bytes.
  * Areas: list.
  * Writes: answer (cost, entries, stored bytes, whole length).
  * Refuses, in this order: 1 at 0; 3 at 0; then record by record 4, 5, 6 at the record.

@@ -18,8 +18,8 @@
 #include "controller.h"
 #include "reference.h"
 
-/* E and F: an entry costs 64 disk bytes. */
-enum { E = 16, F = 4 };
+/* E and F, in 256ths: an entry costs 64 disk bytes. */
+enum { E = 16, F = 4 * 256 };
 
 /* ---- The inputs ---- */
 

@@ -11,7 +11,7 @@
 
 #include "controller.h"
 
-#define CASES 207
+#define CASES 225
 #define FILL 0xA5
 #define AREA 256
 
@@ -143,45 +143,48 @@ static uint32_t measured(uint32_t e, uint32_t f, const uint8_t *bytes, size_t le
     return measure(e, f, bytes, length, answer, sizeof answer);
 }
 
-/* Cost is P for each record and 1 for each new byte: 10 * 4 + 12; 16,711,425 * 2 + 3; 10 * 2 + 16,777,215. */
+/* Cost is P for each record and 256 for each new byte: 2,560 * 4 + 256 * 12; 16,711,425 * 2 + 256 * 3; 2,560 * 2 + 256 * 16,777,215;
+ * 384 * 2 + 256 * 3; 1 + 2^32. */
 static const struct {
     const char *what;
     uint32_t e, f;
     const char *list;
     struct values want;
 } measures[] = {
-    { "no records", 10, 1, "", { 0 } },
-    { "both kinds", 10, 1, "N5 M19@0 M4@7 N7", { .cost = 52, .entries = 4, .stored = 12, .whole = 35 } },
-    { "E 255, F 65535", 255, 65535, "M8@1 N3", { .cost = 33422853, .entries = 2, .stored = 3, .whole = 11 } },
+    { "no records", 10, 256, "", { 0 } },
+    { "both kinds", 10, 256, "N5 M19@0 M4@7 N7", { .cost = 256 * 52, .entries = 4, .stored = 12, .whole = 35 } },
+    { "E 255, F 65535", 255, 65535, "M8@1 N3", { .cost = 33423618, .entries = 2, .stored = 3, .whole = 11 } },
     { "E 1, F 1", 1, 1, "M8@1", { .cost = 1, .entries = 1, .whole = 8 } },
-    { "sizes of 16777216", 10, 1, "N16777215 M1@0", { .cost = 16777235, .entries = 2, .stored = 16777215, .whole = 16777216 } },
-    { "E 0", 0, 1, "N5", { .number = 1 } },
-    { "E 256", 256, 1, "N5", { .number = 1 } },
+    { "sizes of 16777216", 10, 256, "N16777215 M1@0", { .cost = UINT64_C(4294972160), .entries = 2, .stored = 16777215, .whole = 16777216 } },
+    { "a fraction of a disk byte", 3, 128, "M8@1 N3", { .cost = 1536, .entries = 2, .stored = 3, .whole = 11 } },
+    { "one new record of 16777216", 1, 1, "N16777216", { .cost = UINT64_C(4294967297), .entries = 1, .stored = 16777216, .whole = 16777216 } },
+    { "E 0", 0, 256, "N5", { .number = 1 } },
+    { "E 256", 256, 256, "N5", { .number = 1 } },
     { "F 0", 10, 0, "N5", { .number = 1 } },
     { "F 65536", 10, 65536, "N5", { .number = 1 } },
-    { "kind 2", 10, 1, "N5 X5@0", { .number = 4, .place = 1 } },
-    { "byte 1 of a new record", 10, 1, "N5!1", { .number = 4 } },
-    { "byte 2 of a new record", 10, 1, "N5!2", { .number = 4 } },
-    { "byte 3 of a new record", 10, 1, "N5!3", { .number = 4 } },
-    { "byte 1 of a match", 10, 1, "N5 M5@0!1", { .number = 4, .place = 1 } },
-    { "byte 2 of a match", 10, 1, "N5 M5@0!2", { .number = 4, .place = 1 } },
-    { "byte 3 of a match", 10, 1, "N5 M5@0!3", { .number = 4, .place = 1 } },
-    { "a new record of size 0", 10, 1, "N0", { .number = 4 } },
-    { "a match of size 0", 10, 1, "N5 M6@0 M0@0", { .number = 4, .place = 2 } },
-    { "new with address 1", 10, 1, "N5@1", { .number = 4 } },
-    { "new with address 256", 10, 1, "M1@0 N5@256", { .number = 4, .place = 1 } },
-    { "new with address 65536", 10, 1, "N1 M1@0 N5@65536", { .number = 4, .place = 2 } },
-    { "new with address 16777216", 10, 1, "N5@16777216", { .number = 4 } },
-    { "new after new", 10, 1, "M5@0 N5 N5", { .number = 5, .place = 2 } },
-    { "sizes of 16777217", 10, 1, "N16777215 M1@0 M1@0", { .number = 6, .place = 2 } },
-    { "one record of 16777217", 10, 1, "N16777217", { .number = 6 } },
-    { "sizes that pass 2^32", 10, 1, "N1 M4294967295@0", { .number = 6, .place = 1 } },
-    { "1 before 4", 0, 1, "N0", { .number = 1 } },
-    { "4 before 5", 10, 1, "N5 N0", { .number = 4, .place = 1 } },
-    { "5 before 6", 10, 1, "N5 N16777216", { .number = 5, .place = 1 } },
-    { "4 before 6", 10, 1, "N5 M16777216@0!1", { .number = 4, .place = 1 } },
-    { "6 at 1 before 4 at 2", 10, 1, "N5 M16777216@0 N0", { .number = 6, .place = 1 } },
-    { "5 at 1 before 4 at 2", 10, 1, "N5 N5 N0", { .number = 5, .place = 1 } },
+    { "kind 2", 10, 256, "N5 X5@0", { .number = 4, .place = 1 } },
+    { "byte 1 of a new record", 10, 256, "N5!1", { .number = 4 } },
+    { "byte 2 of a new record", 10, 256, "N5!2", { .number = 4 } },
+    { "byte 3 of a new record", 10, 256, "N5!3", { .number = 4 } },
+    { "byte 1 of a match", 10, 256, "N5 M5@0!1", { .number = 4, .place = 1 } },
+    { "byte 2 of a match", 10, 256, "N5 M5@0!2", { .number = 4, .place = 1 } },
+    { "byte 3 of a match", 10, 256, "N5 M5@0!3", { .number = 4, .place = 1 } },
+    { "a new record of size 0", 10, 256, "N0", { .number = 4 } },
+    { "a match of size 0", 10, 256, "N5 M6@0 M0@0", { .number = 4, .place = 2 } },
+    { "new with address 1", 10, 256, "N5@1", { .number = 4 } },
+    { "new with address 256", 10, 256, "M1@0 N5@256", { .number = 4, .place = 1 } },
+    { "new with address 65536", 10, 256, "N1 M1@0 N5@65536", { .number = 4, .place = 2 } },
+    { "new with address 16777216", 10, 256, "N5@16777216", { .number = 4 } },
+    { "new after new", 10, 256, "M5@0 N5 N5", { .number = 5, .place = 2 } },
+    { "sizes of 16777217", 10, 256, "N16777215 M1@0 M1@0", { .number = 6, .place = 2 } },
+    { "one record of 16777217", 10, 256, "N16777217", { .number = 6 } },
+    { "sizes that pass 2^32", 10, 256, "N1 M4294967295@0", { .number = 6, .place = 1 } },
+    { "1 before 4", 0, 256, "N0", { .number = 1 } },
+    { "4 before 5", 10, 256, "N5 N0", { .number = 4, .place = 1 } },
+    { "5 before 6", 10, 256, "N5 N16777216", { .number = 5, .place = 1 } },
+    { "4 before 6", 10, 256, "N5 M16777216@0!1", { .number = 4, .place = 1 } },
+    { "6 at 1 before 4 at 2", 10, 256, "N5 M16777216@0 N0", { .number = 6, .place = 1 } },
+    { "5 at 1 before 4 at 2", 10, 256, "N5 N5 N0", { .number = 5, .place = 1 } },
 };
 
 static void test_measure(void)
@@ -190,9 +193,9 @@ static void test_measure(void)
         size_t n = list_of(measures[i].list, list);
         expect("measure", measures[i].what, answered(measured(measures[i].e, measures[i].f, list, n), measures[i].want) && untouched());
     }
-    expect("measure", "1 before 3", refused(measured(0, 1, list, 11), 1, 0));
-    expect("measure", "1 byte", refused(measured(10, 1, list, 1), 3, 0));
-    expect("measure", "13 bytes", refused(measured(10, 1, list, 13), 3, 0));
+    expect("measure", "1 before 3", refused(measured(0, 256, list, 11), 1, 0));
+    expect("measure", "1 byte", refused(measured(10, 256, list, 1), 3, 0));
+    expect("measure", "13 bytes", refused(measured(10, 256, list, 13), 3, 0));
     fill_areas();
     expect("measure", "an answer area of 31 bytes", not_made(measure(0, 0, list, 1, answer, ANSWER_BYTES - 1)));
 }
@@ -327,7 +330,7 @@ struct terms {
     size_t choice, list, block;
 };
 #define AT(e, f) { e, f, AREA, AREA, AREA }
-#define IN(choice, list, block) { 10, 1, choice, list, block }
+#define IN(choice, list, block) { 10, 256, choice, list, block }
 
 static uint32_t called(call *made, struct terms t, size_t n, const char *version, const char *store)
 {
@@ -343,61 +346,85 @@ struct accepted {
     struct values want;
 };
 
-static int gives(call *made, const struct accepted *a)
+static int gives(call *made, const struct accepted *a, const char *store)
 {
     uint8_t bits[AREA], written[AREA];
     size_t n = list_of(a->list, list), m = list_of(a->written, written), k = strlen(a->bits);
     for (size_t i = 0; i < k; i++)
         bits[i] = (uint8_t)(a->bits[i] - '0');
-    return answered(called(made, a->terms, n, a->version, STORE), a->want) && holds(choice, bits, k) && holds(list_area, written, m)
+    return answered(called(made, a->terms, n, a->version, store), a->want) && holds(choice, bits, k) && holds(list_area, written, m)
         && holds(block_area, a->stored, strlen(a->stored)) && holds(area, "", 0);
 }
 
-/* The sheets, at P = 10, where partition and pass take the same choice; the looks are the pass's. */
+/* The sheets, at F = 256 and an entry of 10 disk bytes, where partition and pass take the same choice; the looks are the pass's. */
 static const struct accepted sheets[] = {
-    { "sheet A", AT(10, 1), "", "", "", "", "", { 0 } },
-    { "sheet B", AT(10, 1), "M1@0", "A", "0", "M1@0", "", { .cost = 10, .entries = 1, .looks = 1 } },
-    { "sheet C", AT(10, 1), SHEET_C, VERSION_C, "111", "N29", VERSION_C, { .cost = 39, .entries = 1, .stored = 29, .looks = 2 } },
-    { "sheet D", AT(10, 1), "N5 M20@0 N5", "01234ABCDEFGHIJKLMNOPQRST56789", "101", "N5 M20@0 N5", "0123456789",
-      { .cost = 40, .entries = 3, .stored = 10, .looks = 3 } },
-    { "sheet E", AT(10, 1), "N5 M19@20 M19@0 N5", "01234UVWXYZabcdefghijklmABCDEFGHIJKLMNOPQRS56789", "1001", "N5 M19@20 M19@0 N5", "0123456789",
-      { .cost = 50, .entries = 4, .stored = 10, .looks = 4 } },
-    { "sheet F", AT(10, 1), "N1 M9@0", "0ABCDEFGHI", "11", "N10", "0ABCDEFGHI", { .cost = 20, .entries = 1, .stored = 10, .looks = 2 } },
-    { "sheet G", AT(10, 1), "N1 M10@0", "0ABCDEFGHIJ", "10", "N1 M10@0", "0", { .cost = 21, .entries = 2, .stored = 1, .looks = 2 } },
-    { "sheet H", AT(10, 1), "M4@8 M4@4 M4@0", "IJKLEFGHABCD", "111", "N12", "IJKLEFGHABCD", { .cost = 22, .entries = 1, .stored = 12, .looks = 4 } },
-    { "sheet J", AT(10, 1), "M10@8 M4@4 M4@0", "IJKLMNOPQREFGHABCD", "011", "M10@8 N8", "EFGHABCD",
-      { .cost = 28, .entries = 2, .stored = 8, .looks = 4 } },
-    { "sheet C at E 2, F 5", AT(2, 5), SHEET_C, VERSION_C, "111", "N29", VERSION_C, { .cost = 39, .entries = 1, .stored = 29, .looks = 2 } },
+    { "sheet A", AT(10, 256), "", "", "", "", "", { 0 } },
+    { "sheet B", AT(10, 256), "M1@0", "A", "0", "M1@0", "", { .cost = 256 * 10, .entries = 1, .looks = 1 } },
+    { "sheet C", AT(10, 256), SHEET_C, VERSION_C, "111", "N29", VERSION_C, { .cost = 256 * 39, .entries = 1, .stored = 29, .looks = 2 } },
+    { "sheet D", AT(10, 256), "N5 M20@0 N5", "01234ABCDEFGHIJKLMNOPQRST56789", "101", "N5 M20@0 N5", "0123456789",
+      { .cost = 256 * 40, .entries = 3, .stored = 10, .looks = 3 } },
+    { "sheet E", AT(10, 256), "N5 M19@20 M19@0 N5", "01234UVWXYZabcdefghijklmABCDEFGHIJKLMNOPQRS56789", "1001", "N5 M19@20 M19@0 N5", "0123456789",
+      { .cost = 256 * 50, .entries = 4, .stored = 10, .looks = 4 } },
+    { "sheet F", AT(10, 256), "N1 M9@0", "0ABCDEFGHI", "11", "N10", "0ABCDEFGHI", { .cost = 256 * 20, .entries = 1, .stored = 10, .looks = 2 } },
+    { "sheet G", AT(10, 256), "N1 M10@0", "0ABCDEFGHIJ", "10", "N1 M10@0", "0", { .cost = 256 * 21, .entries = 2, .stored = 1, .looks = 2 } },
+    { "sheet H", AT(10, 256), "M4@8 M4@4 M4@0", "IJKLEFGHABCD", "111", "N12", "IJKLEFGHABCD", { .cost = 256 * 22, .entries = 1, .stored = 12, .looks = 4 } },
+    { "sheet J", AT(10, 256), "M10@8 M4@4 M4@0", "IJKLMNOPQREFGHABCD", "011", "M10@8 N8", "EFGHABCD",
+      { .cost = 256 * 28, .entries = 2, .stored = 8, .looks = 4 } },
+    { "sheet C at E 2, F 1280", AT(2, 1280), SHEET_C, VERSION_C, "111", "N29", VERSION_C, { .cost = 256 * 39, .entries = 1, .stored = 29, .looks = 2 } },
     { "sheet C at the greatest price", AT(255, 65535), SHEET_C, VERSION_C, "111", "N29", VERSION_C,
-      { .cost = 16711454, .entries = 1, .stored = 29, .looks = 2 } },
+      { .cost = 16718849, .entries = 1, .stored = 29, .looks = 2 } },
     { "sheet C in areas just long enough", IN(3, 36, 29), SHEET_C, VERSION_C, "111", "N29", VERSION_C,
-      { .cost = 39, .entries = 1, .stored = 29, .looks = 2 } },
+      { .cost = 256 * 39, .entries = 1, .stored = 29, .looks = 2 } },
     { "sheet D in areas longer than it writes", IN(3, 36, 30), "N5 M20@0 N5", "01234ABCDEFGHIJKLMNOPQRST56789", "101", "N5 M20@0 N5", "0123456789",
-      { .cost = 40, .entries = 3, .stored = 10, .looks = 3 } },
+      { .cost = 256 * 40, .entries = 3, .stored = 10, .looks = 3 } },
     { "sheet A in no areas", IN(0, 0, 0), "", "", "", "", "", { 0 } },
-    { "matches that go on in the store", AT(10, 1), "M10@0 M10@10", "ABCDEFGHIJKLMNOPQRST", "00", "M10@0 M10@10", "",
-      { .cost = 20, .entries = 2, .looks = 2 } },
-    { "a match to the end of the store", AT(10, 1), "M5@35", "jklmn", "0", "M5@35", "", { .cost = 10, .entries = 1, .looks = 1 } },
-    /* At P = 8 the first match joins; the last would add as much as its entry costs, and stays. */
-    { "a tie", AT(8, 1), "M4@8 N8 M8@0", "IJKL01234567ABCDEFGH", "110", "N12 M8@0", "IJKL01234567", { .cost = 28, .entries = 2, .stored = 12, .looks = 4 } },
+    { "matches that go on in the store", AT(10, 256), "M10@0 M10@10", "ABCDEFGHIJKLMNOPQRST", "00", "M10@0 M10@10", "",
+      { .cost = 256 * 20, .entries = 2, .looks = 2 } },
+    { "a match to the end of the store", AT(10, 256), "M5@35", "jklmn", "0", "M5@35", "", { .cost = 256 * 10, .entries = 1, .looks = 1 } },
+    /* At 8 disk bytes for an entry the first match joins; the last would add as much as its entry costs, and stays. */
+    { "a tie", AT(8, 256), "M4@8 N8 M8@0", "IJKL01234567ABCDEFGH", "110", "N12 M8@0", "IJKL01234567", { .cost = 256 * 28, .entries = 2, .stored = 12, .looks = 4 } },
 };
 
 /* Sheet I, which three matches stored as one would make cheaper: the pass merges only pairs, and keeps all. */
-static const struct accepted sheet_i = { "sheet I", AT(10, 1), "M6@12 M6@6 M6@0", "MNOPQRGHIJKLABCDEF", "111", "N18", "MNOPQRGHIJKLABCDEF",
-    { .cost = 28, .entries = 1, .stored = 18 } };
-static const struct accepted sheet_i_passed = { "sheet I", AT(10, 1), "M6@12 M6@6 M6@0", "MNOPQRGHIJKLABCDEF", "000", "M6@12 M6@6 M6@0", "",
-    { .cost = 30, .entries = 3, .looks = 3 } };
+static const struct accepted sheet_i = { "sheet I", AT(10, 256), "M6@12 M6@6 M6@0", "MNOPQRGHIJKLABCDEF", "111", "N18", "MNOPQRGHIJKLABCDEF",
+    { .cost = 256 * 28, .entries = 1, .stored = 18 } };
+static const struct accepted sheet_i_passed = { "sheet I", AT(10, 256), "M6@12 M6@6 M6@0", "MNOPQRGHIJKLABCDEF", "000", "M6@12 M6@6 M6@0", "",
+    { .cost = 256 * 30, .entries = 3, .looks = 3 } };
+
+/* Factors with a fraction, over a store of STORE three times; again partition and pass take the same choice. A match of 1 byte costs 256 to
+ * store: at F = 256 that is what its entry costs, a tie, and a 256th more or less decides. The last three are one list at E 10: of its
+ * matches of 12 and 17 bytes an entry of 10 disk bytes is worth neither, of 15 the first, of 20 both. */
+#define STORE_3 STORE STORE STORE
+#define LIST_5 "N1 M12@0 M60@50 M17@20 N1"
+#define VERSION_5 "0ABCDEFGHIJKLKLMNOPQRSTUVWXYZabcdefghijklmnABCDEFGHIJKLMNOPQRSTUVWXYZabcdUVWXYZabcdefghijk1"
+static const struct accepted fractions[] = {
+    { "F 1", AT(1, 1), "N1 M1@0", "0A", "10", "N1 M1@0", "0", { .cost = 258, .entries = 2, .stored = 1, .looks = 2 } },
+    { "F 255", AT(1, 255), "N1 M1@0", "0A", "10", "N1 M1@0", "0", { .cost = 766, .entries = 2, .stored = 1, .looks = 2 } },
+    { "F 256, a tie", AT(1, 256), "N1 M1@0", "0A", "10", "N1 M1@0", "0", { .cost = 768, .entries = 2, .stored = 1, .looks = 2 } },
+    { "F 257", AT(1, 257), "N1 M1@0", "0A", "11", "N2", "0A", { .cost = 769, .entries = 1, .stored = 2, .looks = 2 } },
+    { "five records at F 256", AT(10, 256), LIST_5, VERSION_5, "10001", LIST_5, "01", { .cost = 13312, .entries = 5, .stored = 2, .looks = 5 } },
+    { "five records at F 384", AT(10, 384), LIST_5, VERSION_5, "11001", "N13 M60@50 M17@20 N1", "0ABCDEFGHIJKL1",
+      { .cost = 18944, .entries = 4, .stored = 14, .looks = 5 } },
+    { "five records at F 512", AT(10, 512), LIST_5, VERSION_5, "11011", "N13 M60@50 N18", "0ABCDEFGHIJKLUVWXYZabcdefghijk1",
+      { .cost = 23296, .entries = 3, .stored = 31, .looks = 6 } },
+};
+
+/* Pass and partition, of which partition gives no looks. */
+static void give_both(struct accepted a, const char *store)
+{
+    expect("pass", a.what, gives(pass, &a, store));
+    a.want.looks = 0;
+    expect("partition", a.what, gives(partition, &a, store));
+}
 
 static void test_accepted(void)
 {
-    for (size_t i = 0; i < sizeof sheets / sizeof *sheets; i++) {
-        struct accepted a = sheets[i];
-        expect("pass", a.what, gives(pass, &a));
-        a.want.looks = 0;
-        expect("partition", a.what, gives(partition, &a));
-    }
-    expect("partition", sheet_i.what, gives(partition, &sheet_i));
-    expect("pass", sheet_i_passed.what, gives(pass, &sheet_i_passed));
+    for (size_t i = 0; i < sizeof sheets / sizeof *sheets; i++)
+        give_both(sheets[i], STORE);
+    for (size_t i = 0; i < sizeof fractions / sizeof *fractions; i++)
+        give_both(fractions[i], STORE_3);
+    expect("partition", sheet_i.what, gives(partition, &sheet_i, STORE));
+    expect("pass", sheet_i_passed.what, gives(pass, &sheet_i_passed, STORE));
 }
 
 /* ---- Partition and pass: refused, both with the same number and place ---- */
@@ -408,40 +435,40 @@ static const struct {
     const char *list, *version, *store;
     uint32_t number, place;
 } refusals[] = {
-    { "E 0", AT(0, 1), SHEET_C, VERSION_C, STORE, 1, 0 },
-    { "E 256", AT(256, 1), SHEET_C, VERSION_C, STORE, 1, 0 },
+    { "E 0", AT(0, 256), SHEET_C, VERSION_C, STORE, 1, 0 },
+    { "E 256", AT(256, 256), SHEET_C, VERSION_C, STORE, 1, 0 },
     { "F 0", AT(10, 0), SHEET_C, VERSION_C, STORE, 1, 0 },
     { "F 65536", AT(10, 65536), SHEET_C, VERSION_C, STORE, 1, 0 },
     { "a choice area one byte short", IN(2, AREA, AREA), SHEET_C, VERSION_C, STORE, 9, 0 },
     { "a list area one byte short", IN(AREA, 35, AREA), SHEET_C, VERSION_C, STORE, 9, 0 },
     { "a block area one byte short", IN(AREA, AREA, 28), SHEET_C, VERSION_C, STORE, 9, 0 },
-    { "kind 2", AT(10, 1), "X5 M19@0 N5", VERSION_C, STORE, 4, 0 },
-    { "byte 2", AT(10, 1), "N5 M19@0!2 N5", VERSION_C, STORE, 4, 1 },
-    { "size 0", AT(10, 1), "N5 M19@0 M0@0", VERSION_C, STORE, 4, 2 },
-    { "a new record with an address", AT(10, 1), "N5 M19@0 N5@1", VERSION_C, STORE, 4, 2 },
-    { "new after new", AT(10, 1), "N5 N19 N5", VERSION_C, STORE, 5, 1 },
-    { "one byte too many", AT(10, 1), "N5 M19@0 N6", VERSION_C, STORE, 6, 2 },
-    { "one record too many", AT(10, 1), "N5 M19@0 N5 M1@0", VERSION_C, STORE, 6, 3 },
-    { "sizes that pass 2^32", AT(10, 1), "N5 M4294967295@0 N5", VERSION_C, STORE, 6, 1 },
-    { "one byte too few", AT(10, 1), "N5 M19@0 N4", VERSION_C, STORE, 6, 3 },
-    { "no records for a version", AT(10, 1), "", VERSION_C, STORE, 6, 0 },
-    { "a record for no version", AT(10, 1), "N1", "", STORE, 6, 0 },
-    { "a match of 19 in a store of 18", AT(10, 1), SHEET_C, VERSION_C, "ABCDEFGHIJKLMNOPQR", 7, 1 },
-    { "a match of 5 at 15 in a store of 19", AT(10, 1), "M5@15", "PQRST", "ABCDEFGHIJKLMNOPQRS", 7, 0 },
-    { "no store", AT(10, 1), SHEET_C, VERSION_C, "", 7, 1 },
-    { "address 4294967295", AT(10, 1), "N5 M19@4294967295 N5", VERSION_C, STORE, 7, 1 },
-    { "a match whose first byte differs", AT(10, 1), SHEET_C, VERSION_C, "-BCDEFGHIJKLMNOPQRS", 8, 1 },
-    { "a match whose last byte differs", AT(10, 1), SHEET_C, VERSION_C, "ABCDEFGHIJKLMNOPQR-", 8, 1 },
-    { "a second match that differs", AT(10, 1), "N5 M9@0 M10@10 N5", VERSION_C, STORE, 8, 2 },
-    { "1 before 9", { 0, 1, 2, AREA, AREA }, SHEET_C, VERSION_C, STORE, 1, 0 },
+    { "kind 2", AT(10, 256), "X5 M19@0 N5", VERSION_C, STORE, 4, 0 },
+    { "byte 2", AT(10, 256), "N5 M19@0!2 N5", VERSION_C, STORE, 4, 1 },
+    { "size 0", AT(10, 256), "N5 M19@0 M0@0", VERSION_C, STORE, 4, 2 },
+    { "a new record with an address", AT(10, 256), "N5 M19@0 N5@1", VERSION_C, STORE, 4, 2 },
+    { "new after new", AT(10, 256), "N5 N19 N5", VERSION_C, STORE, 5, 1 },
+    { "one byte too many", AT(10, 256), "N5 M19@0 N6", VERSION_C, STORE, 6, 2 },
+    { "one record too many", AT(10, 256), "N5 M19@0 N5 M1@0", VERSION_C, STORE, 6, 3 },
+    { "sizes that pass 2^32", AT(10, 256), "N5 M4294967295@0 N5", VERSION_C, STORE, 6, 1 },
+    { "one byte too few", AT(10, 256), "N5 M19@0 N4", VERSION_C, STORE, 6, 3 },
+    { "no records for a version", AT(10, 256), "", VERSION_C, STORE, 6, 0 },
+    { "a record for no version", AT(10, 256), "N1", "", STORE, 6, 0 },
+    { "a match of 19 in a store of 18", AT(10, 256), SHEET_C, VERSION_C, "ABCDEFGHIJKLMNOPQR", 7, 1 },
+    { "a match of 5 at 15 in a store of 19", AT(10, 256), "M5@15", "PQRST", "ABCDEFGHIJKLMNOPQRS", 7, 0 },
+    { "no store", AT(10, 256), SHEET_C, VERSION_C, "", 7, 1 },
+    { "address 4294967295", AT(10, 256), "N5 M19@4294967295 N5", VERSION_C, STORE, 7, 1 },
+    { "a match whose first byte differs", AT(10, 256), SHEET_C, VERSION_C, "-BCDEFGHIJKLMNOPQRS", 8, 1 },
+    { "a match whose last byte differs", AT(10, 256), SHEET_C, VERSION_C, "ABCDEFGHIJKLMNOPQR-", 8, 1 },
+    { "a second match that differs", AT(10, 256), "N5 M9@0 M10@10 N5", VERSION_C, STORE, 8, 2 },
+    { "1 before 9", { 0, 256, 2, AREA, AREA }, SHEET_C, VERSION_C, STORE, 1, 0 },
     { "9 before 4", IN(2, AREA, AREA), "X5 M19@0 N5", VERSION_C, STORE, 9, 0 },
     { "9 before the short end", IN(2, AREA, AREA), "N5 M1@0 N1", VERSION_C, STORE, 9, 0 },
-    { "4 before 5", AT(10, 1), "N5 N0 N5", VERSION_C, STORE, 4, 1 },
-    { "5 before 6", AT(10, 1), "N5 N99 N5", VERSION_C, STORE, 5, 1 },
-    { "6 before 7", AT(10, 1), "N5 M99@0 N5", VERSION_C, STORE, 6, 1 },
-    { "7 at 1 before 4 at 2", AT(10, 1), "N5 M19@22 N0", VERSION_C, STORE, 7, 1 },
-    { "8 at 1 before 4 at 2", AT(10, 1), "N5 M19@1 N0", VERSION_C, STORE, 8, 1 },
-    { "8 before the short end", AT(10, 1), "N5 M19@1 N1", VERSION_C, STORE, 8, 1 },
+    { "4 before 5", AT(10, 256), "N5 N0 N5", VERSION_C, STORE, 4, 1 },
+    { "5 before 6", AT(10, 256), "N5 N99 N5", VERSION_C, STORE, 5, 1 },
+    { "6 before 7", AT(10, 256), "N5 M99@0 N5", VERSION_C, STORE, 6, 1 },
+    { "7 at 1 before 4 at 2", AT(10, 256), "N5 M19@22 N0", VERSION_C, STORE, 7, 1 },
+    { "8 at 1 before 4 at 2", AT(10, 256), "N5 M19@1 N0", VERSION_C, STORE, 8, 1 },
+    { "8 before the short end", AT(10, 256), "N5 M19@1 N1", VERSION_C, STORE, 8, 1 },
 };
 
 static void test_refused(call *made, const char *name)
@@ -451,13 +478,13 @@ static void test_refused(call *made, const char *name)
         expect(name, refusals[i].what, refused(called(made, refusals[i].terms, n, refusals[i].version, refusals[i].store), refusals[i].number,
             refusals[i].place));
     }
-    struct terms usual = AT(10, 1), no_factor = AT(10, 0), short_choice = IN(0, AREA, AREA);
+    struct terms usual = AT(10, 256), no_factor = AT(10, 0), short_choice = IN(0, AREA, AREA);
     list_of(SHEET_C, list);
     expect(name, "11 bytes", refused(called(made, usual, 11, "", STORE), 3, 0));
     expect(name, "1 before 3", refused(called(made, no_factor, 11, "", STORE), 1, 0));
     expect(name, "3 before 9", refused(called(made, short_choice, 35, VERSION_C, STORE), 3, 0));
     fill_areas();
-    expect(name, "an answer area of 31 bytes", not_made(made(10, 1, list, 36, (const uint8_t *)VERSION_C, 29, (const uint8_t *)STORE, 40, choice, AREA,
+    expect(name, "an answer area of 31 bytes", not_made(made(10, 256, list, 36, (const uint8_t *)VERSION_C, 29, (const uint8_t *)STORE, 40, choice, AREA,
         list_area, AREA, block_area, AREA, answer, ANSWER_BYTES - 1)));
 }
 
@@ -479,12 +506,12 @@ static void test_greatest_lists(void)
     size_t length = (size_t)RECORDS_MOST * RECORD_BYTES;
     uint8_t *most = memory(length + RECORD_BYTES), *out = memory(length), *bits = memory(RECORDS_MOST), *zeros = memory(length + RECORD_BYTES);
     uint8_t *bytes = memory((size_t)VERSION_MOST + 1), *stored = memory(VERSION_MOST);
-    expect("measure", "49,152 zero bytes, which pass check 3", refused(measured(10, 1, zeros, length), 4, 0));
-    expect("measure", "49,164 bytes", refused(measured(10, 1, zeros, length + RECORD_BYTES), 3, 0));
-    expect("measure", "49,151 bytes", refused(measured(10, 1, zeros, length - 1), 3, 0));
+    expect("measure", "49,152 zero bytes, which pass check 3", refused(measured(10, 256, zeros, length), 4, 0));
+    expect("measure", "49,164 bytes", refused(measured(10, 256, zeros, length + RECORD_BYTES), 3, 0));
+    expect("measure", "49,151 bytes", refused(measured(10, 256, zeros, length - 1), 3, 0));
     for (size_t i = 0; i < RECORDS_MOST; i++)
         put_record(most, i, KIND_MATCH, VERSION_MOST / RECORDS_MOST, (uint32_t)(3 * i));
-    expect("measure", "4,096 records", answered(measured(10, 1, most, length), (struct values){ .cost = 40960, .entries = 4096, .whole = VERSION_MOST }));
+    expect("measure", "4,096 records", answered(measured(10, 256, most, length), (struct values){ .cost = 256 * 40960, .entries = 4096, .whole = VERSION_MOST }));
     fill_areas();
     expect("partition", "4,096 records and 16,777,216 bytes", answered(partition(1, 1, most, length, bytes, VERSION_MOST, bytes, VERSION_MOST, bits,
         RECORDS_MOST, out, length, stored, VERSION_MOST, answer, sizeof answer), (struct values){ .cost = 4096, .entries = 4096 })
@@ -492,10 +519,19 @@ static void test_greatest_lists(void)
     fill_areas();
     expect("partition", "at the greatest price all is stored", answered(partition(E_MOST, F_MOST, most, length, bytes, VERSION_MOST, bytes, VERSION_MOST,
         bits, RECORDS_MOST, out, length, stored, VERSION_MOST, answer, sizeof answer),
-        (struct values){ .cost = 16711425 + UINT64_C(16777216), .entries = 1, .stored = VERSION_MOST }) && memcmp(stored, bytes, VERSION_MOST) == 0);
+        (struct values){ .cost = 16711425 + UINT64_C(4294967296), .entries = 1, .stored = VERSION_MOST }) && memcmp(stored, bytes, VERSION_MOST) == 0);
     fill_areas();
     expect("pass", "4,096 records", answered(pass(1, 1, most, length, bytes, VERSION_MOST, bytes, VERSION_MOST, bits, RECORDS_MOST, out, length,
         stored, VERSION_MOST, answer, sizeof answer), (struct values){ .cost = 4096, .entries = 4096, .looks = 4096 }));
+    /* Two matches of 2^32 256ths together, which a sum in 32 bits would take for 0: no price is worth them. */
+    for (size_t i = 0; i < 2; i++)
+        put_record(most, i, KIND_MATCH, VERSION_MOST / 2, (uint32_t)(VERSION_MOST / 2 * (1 - i)));
+    fill_areas();
+    expect("pass", "two matches of 8,388,608 at the greatest price", answered(pass(E_MOST, F_MOST, most, 24, bytes, VERSION_MOST, bytes, VERSION_MOST,
+        bits, RECORDS_MOST, out, length, stored, VERSION_MOST, answer, sizeof answer), (struct values){ .cost = 33422850, .entries = 2, .looks = 2 }));
+    fill_areas();
+    expect("partition", "two matches of 8,388,608 at the greatest price", answered(partition(E_MOST, F_MOST, most, 24, bytes, VERSION_MOST, bytes,
+        VERSION_MOST, bits, RECORDS_MOST, out, length, stored, VERSION_MOST, answer, sizeof answer), (struct values){ .cost = 33422850, .entries = 2 }));
     fill_areas();
     expect("partition", "a version of 16,777,217 bytes", refused(partition(1, 1, most, length, bytes, VERSION_MOST + 1, bytes, VERSION_MOST, bits,
         RECORDS_MOST, out, length, stored, VERSION_MOST, answer, sizeof answer), 2, 0));
@@ -519,7 +555,7 @@ static void test_greatest_store(void)
     fill_areas();
     expect("check", "2 before 3", refused(check(list, 35, block, 10, huge, (size_t)STORE_MOST + 1, 0, answer, sizeof answer), 2, 0));
     fill_areas();
-    expect("pass", "a store of 268,435,457 bytes", refused(pass(10, 1, list, 36, (const uint8_t *)VERSION_C, 29, huge, (size_t)STORE_MOST + 1, choice,
+    expect("pass", "a store of 268,435,457 bytes", refused(pass(10, 256, list, 36, (const uint8_t *)VERSION_C, 29, huge, (size_t)STORE_MOST + 1, choice,
         AREA, list_area, AREA, block_area, AREA, answer, sizeof answer), 2, 0));
     free(huge);
 }

@@ -480,7 +480,7 @@ static uint64_t cost_of_bits(const struct input *in, uint32_t c)
         const uint32_t bit = c >> (n - 1 - i) & 1;
         if (!bit && record(in->list, i)[0] == 0)
             return UINT64_MAX;
-        cost += (uint64_t)in->e * in->f * !(bit && last) + (bit ? size_at(in, i) : 0);
+        cost += (uint64_t)in->e * in->f * !(bit && last) + (bit ? UINT64_C(256) * size_at(in, i) : 0);
         last = bit;
     }
     return cost;
@@ -624,10 +624,11 @@ static void set_areas(struct input *in)
     in->k = records(in) == 0 ? 0 : below(records(in));
 }
 
-/* A size around P and 2P and their parts, cut to 1 and most. */
+/* A size around P and 2P, in disk bytes, and their parts, cut to 1 and most. */
 static uint32_t draw_size(uint64_t price, uint32_t most)
 {
-    const uint64_t near[8] = { price, price, 2 * price, 2 * price, price / 2, price / 3, 1, below(2 * price + 3) };
+    const uint64_t one = price / 256, two = 2 * price / 256;
+    const uint64_t near[8] = { one, one, two, two, one / 2, one / 3, 1, below(two + 3) };
     const int64_t size = (int64_t)near[below(8)] + (int64_t)below(3) - 1;
     if (size < 1)
         return 1;
@@ -654,12 +655,13 @@ static void append_records(struct input *in, const struct shape *shape)
     }
 }
 
-/* A price: mostly small, so that few bytes reach P and 2P. */
+/* A price: mostly small, so that few bytes reach P and 2P; a factor of a whole disk byte, a 256th less or more, any up to 3, or an edge. */
 static void draw_price(struct input *in)
 {
     const int big = one_in(16);
+    const uint32_t factors[8] = { 1, 255, 256, 257, 65535, 256 * (1 + below(3)), 1 + below(768), 1 + below(65535) };
     in->e = big ? 255 : one_in(3) ? 1 : 1 + below(12);
-    in->f = big || one_in(16) ? (one_in(2) ? 65535 : 1 + below(65535)) : 1 + below(3);
+    in->f = factors[big ? 4 + 3 * below(2) : below(8)];
 }
 
 static struct input draw_input(const struct shape *shape)
@@ -864,13 +866,13 @@ static void damage_some(struct input *in)
 
 /* ---- The cases ---- */
 
-/* Goes on from a list to all lists that begin with it and have up to so many records more, with sizes up to 2P + 1. */
+/* Goes on from a list to all lists that begin with it and have up to so many records more, with sizes up to 2P and a disk byte. */
 static void every_list(const struct input *in, size_t more, int last_new)
 {
     struct input next = *in;
     set_areas(&next);
     try_input(&next);
-    for (uint32_t size = 1; more > 0 && size <= 2 * in->e * in->f + 1; size++) {
+    for (uint32_t size = 1; more > 0 && size <= 2 * in->e * in->f / 256 + 1; size++) {
         next = *in;
         append_match(&next, size, below(in->store_len - size + 1));
         every_list(&next, more - 1, 0);
@@ -882,17 +884,20 @@ static void every_list(const struct input *in, size_t more, int last_new)
     }
 }
 
-/* Every short list for P = 1, 2 and 3. */
+/* Every short list where an entry costs 1, 2 and 3 disk bytes, and where it costs a 256th of one, a 256th less or more than one, one and a
+ * half, and two and a half. */
 static void short_lists(void)
 {
-    const size_t most[] = { 6, 5, 4 };
+    const struct { uint32_t e, f; size_t most; } prices[] = {
+        { 1, 256, 6 }, { 2, 256, 5 }, { 3, 256, 4 }, { 1, 1, 6 }, { 1, 255, 6 }, { 1, 257, 6 }, { 1, 384, 5 }, { 5, 128, 4 },
+    };
     case_kind = "short lists";
-    for (uint32_t price = 1; price <= 3; price++) {
+    for (size_t i = 0; i < sizeof prices / sizeof prices[0]; i++) {
         struct input in = empty_input(12);
         fill_letters(in.store, in.store_len, 2);
-        in.e = price;
-        in.f = 1;
-        every_list(&in, most[price - 1], 0);
+        in.e = prices[i].e;
+        in.f = prices[i].f;
+        every_list(&in, prices[i].most, 0);
     }
 }
 
@@ -966,19 +971,26 @@ static void store_lengths(void)
     }
 }
 
-/* Lists of two or three long records; a size of 0 ends the list. P is 8,388,480 for E 128, else 16,711,425 or small. */
+/* Lists of two or three long records; a size of 0 ends the list. For E 128 an entry costs 32,767 and a half disk bytes, for E 255 a 256th
+ * more than 65,279; sizes that add up to 2^24 cost 2^32. */
 static const struct long_list {
     uint32_t e, f;
     struct { int is_new; uint32_t size; } records[3];
 } long_lists[] = {
-    { 128, 65535, { { 1, 5 }, { 0, 16776959 }, { 1, 5 } } },
-    { 128, 65535, { { 1, 5 }, { 0, 16776960 }, { 1, 5 } } },
-    { 128, 65535, { { 0, 8388479 }, { 1, 1 }, { 0, 8388480 } } },
-    { 128, 65535, { { 1, 1 }, { 0, 8388480 }, { 0, 0 } } },
-    { 128, 65535, { { 0, 4194240 }, { 0, 4194239 }, { 0, 8388480 } } },
-    { 255, 65535, { { 0, 8355712 }, { 0, 8355712 }, { 0, 0 } } },
-    { 255, 65535, { { 0, 8355712 }, { 0, 8355713 }, { 0, 0 } } },
+    { 128, 65535, { { 1, 5 }, { 0, 65534 }, { 1, 5 } } },
+    { 128, 65535, { { 1, 5 }, { 0, 65535 }, { 1, 5 } } },
+    { 128, 65535, { { 0, 32767 }, { 1, 1 }, { 0, 32768 } } },
+    { 128, 65535, { { 1, 1 }, { 0, 32768 }, { 0, 0 } } },
+    { 128, 65535, { { 0, 16384 }, { 0, 16383 }, { 0, 32768 } } },
+    { 255, 65535, { { 0, 32639 }, { 0, 32640 }, { 0, 0 } } },
+    { 255, 65535, { { 0, 32640 }, { 0, 32640 }, { 0, 0 } } },
+    { 255, 65535, { { 1, 1 }, { 0, 65279 }, { 0, 0 } } },
+    { 255, 65535, { { 1, 1 }, { 0, 65280 }, { 0, 0 } } },
+    { 255, 65535, { { 0, 8388608 }, { 0, 8388608 }, { 0, 0 } } },
+    { 255, 65535, { { 1, 1 }, { 0, 16777214 }, { 1, 1 } } },
+    { 255, 65535, { { 0, 16777216 }, { 0, 0 }, { 0, 0 } } },
     { 255, 65535, { { 1, 16777216 }, { 0, 0 }, { 0, 0 } } },
+    { 1, 1, { { 0, 8388608 }, { 0, 8388608 }, { 0, 0 } } },
     { 1, 1, { { 0, 16777216 }, { 0, 0 }, { 0, 0 } } },
     { 1, 1, { { 0, 16777216 }, { 1, 1 }, { 0, 0 } } },
     { 1, 1, { { 1, 16777217 }, { 0, 0 }, { 0, 0 } } },
@@ -1088,8 +1100,9 @@ int main(int argc, char **argv)
     list_lengths();
     store_lengths();
     long_cases();
-    longest_full_case(16, 256);
-    longest_full_case(8, 256);
+    longest_full_case(32, 32768);
+    longest_full_case(32, 32769);
+    longest_full_case(16, 32768);
     print_table();
     uint64_t calls = 0;
     for (int call = 0; call < CALLS; call++)

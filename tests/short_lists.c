@@ -1,12 +1,13 @@
 /* short_lists.c - partition and pass on every short list, against every choice of it and a second writing of the five rules.
  *
- * Written from document 01 alone: nothing here is of the crates or of tests/reference. The lists have 0 to 6 records, new or match,
- * of the sizes 1, 3, 4, 7 and 8, around P = 4 and 2P. Partition must give the choice that comes first among all; pass must give what
+ * Written from document 01, and document 02's S-1, alone: nothing here is of the crates or of tests/reference. The lists have 0 to 6
+ * records, new or match, of the sizes 1, 3, 4, 7 and 8; all of them are tried at each of four prices, an entry of 4 disk bytes, of a
+ * little less and a little more, and of 3 and a half. Partition must give the choice that comes first among all; pass must give what
  * the rules leave, and keep its bounds: no dearer than the list handed in, no cheaper than the least choice, at most 2n - 1 looks.
  * Answers are compared field by field and areas to their last byte.
  *
- * In order: the price; lists; a choice; the least choice; the pass; what is due; one call; one list; all lists.
- * Exit 0 and one line with the counts, each held to its number, else 1 and a line for each of the first lists that are wrong.
+ * In order: the price; lists; a choice; the least choice; the pass; what is due; one call; one list; all lists; all prices.
+ * Exit 0 and a line with the counts for each price, each held to its number, else 1 and a line for each of the first lists that are wrong.
  */
 #include <inttypes.h>
 #include <stdio.h>
@@ -14,20 +15,23 @@
 
 #include "controller.h"
 
-/* ---- The price ---- */
+/* ---- The price, in 256ths of a disk byte ---- */
 
-enum { E = 2, F = 2 };
+enum { E = 2 };
+
+/* F, which each round sets. */
+static uint32_t factor;
 
 /* What an entry costs: P. */
 static uint64_t entry_cost(void)
 {
-    return (uint64_t)F * E;
+    return (uint64_t)factor * E;
 }
 
 /* What stored bytes cost, in the same unit. */
 static uint64_t bytes_cost(uint64_t bytes)
 {
-    return bytes;
+    return 256 * bytes;
 }
 
 /* ---- Lists ---- */
@@ -56,7 +60,7 @@ static uint64_t stored_bytes(const struct list *list)
     return sum;
 }
 
-/* Formula (1). */
+/* F x E x entries + 256 x stored bytes. */
 static uint64_t cost(const struct list *list)
 {
     return entry_cost() * list->n + bytes_cost(stored_bytes(list));
@@ -368,7 +372,7 @@ static uint32_t make_call(call_of *call, const struct input *in, struct areas *g
     uint8_t bytes[MOST * RECORD_BYTES];
     write_list(&in->list, bytes);
     memset(got, FILL, sizeof *got);
-    return call(E, F, bytes, in->list.n * RECORD_BYTES, in->version, in->whole, store, STORE, got->choice, CHOICE_AREA,
+    return call(E, factor, bytes, in->list.n * RECORD_BYTES, in->version, in->whole, store, STORE, got->choice, CHOICE_AREA,
                 got->list, LIST_AREA, got->block, BLOCK_AREA, got->answer, ANSWER_AREA);
 }
 
@@ -419,7 +423,9 @@ static const char *differs(call_of *call, const struct input *in, const struct d
 
 /* ---- One list ---- */
 
-static struct { uint64_t lists, choices, ties, dearer, looks, wrong; } count;
+static struct counts {
+    uint64_t lists, choices, ties, dearer, looks, wrong;
+} count;
 
 enum { REPORTED = 10 };
 
@@ -427,7 +433,7 @@ static void report(const struct list *list, const char *call, const char *what)
 {
     if (++count.wrong > REPORTED)
         return;
-    printf("short_lists:");
+    printf("short_lists: F %" PRIu32 ":", factor);
     for (size_t i = 0; i < list->n; i++)
         printf(" %c%" PRIu32, list->at[i].kind == NEW ? 'N' : 'M', list->at[i].size);
     printf(": %s: %s\n", call, what);
@@ -510,20 +516,46 @@ static void try_all_from(const struct input *in)
     }
 }
 
+/* ---- All prices ---- */
+
 /* Kinds of n records, no new one right after a new one, there are 1, 2, 3, 5, 8, 13, 21, each the sum of the two before; and 5 sizes
  * for each record: 1 + 2 * 5 + 3 * 25 + 5 * 125 + 8 * 625 + 13 * 3,125 + 21 * 15,625 lists. A choice is free at each match, so of
- * choices there are 1 + 3 * 5 + 8 * 25 + 22 * 125 + 60 * 625 + 164 * 3,125 + 448 * 15,625. The other three were counted once. */
-enum { LISTS = 374461, CHOICES = 7552966, TIES = 156779, DEARER = 56252, LOOKS = 2160733 };
+ * choices there are 1 + 3 * 5 + 8 * 25 + 22 * 125 + 60 * 625 + 164 * 3,125 + 448 * 15,625. */
+enum { LISTS = 374461, CHOICES = 7552966 };
+
+/* A price, and what was counted once at it: lists of which two choices or more cost least, passes dearer than partition, looks. At 511 the
+ * rules apply as at 512, where a match of 4 or 8 bytes costs as much as the entries that it would spare; so there are as many looks, and
+ * of the ties none that a whole number made. */
+static const struct round {
+    uint32_t factor;
+    uint64_t ties, dearer, looks;
+} rounds[] = {
+    { 512, 156779, 56252, 2160733 },
+    { 511, 0, 0, 0 },
+    { 513, 0, 0, 0 },
+    { 448, 0, 0, 0 },
+};
+
+/* Tries all lists at a price; whether all went well. */
+static int try_round(const struct round *round)
+{
+    const struct input none = { .whole = 0 };
+    factor = round->factor;
+    count = (struct counts){ 0 };
+    try_all_from(&none);
+    printf("short_lists: E %d, F %" PRIu32 ": %" PRIu64 " lists of %d, %" PRIu64 " choices of %d, %" PRIu64 " lists with a tie of %" PRIu64
+           ", %" PRIu64 " passes dearer of %" PRIu64 ", %" PRIu64 " looks of %" PRIu64 ", %" PRIu64 " wrong\n", E, factor, count.lists, LISTS,
+           count.choices, CHOICES, count.ties, round->ties, count.dearer, round->dearer, count.looks, round->looks, count.wrong);
+    return count.lists == LISTS && count.choices == CHOICES && count.ties == round->ties && count.dearer == round->dearer
+        && count.looks == round->looks && count.wrong == 0;
+}
 
 int main(void)
 {
-    const struct input none = { .whole = 0 };
+    int well = 1;
     for (size_t i = 0; i < STORE; i++)
         store[i] = (uint8_t)(1 + i);
-    try_all_from(&none);
-    printf("short_lists: %" PRIu64 " lists of %d, %" PRIu64 " choices of %d, %" PRIu64 " lists with a tie of %d, %" PRIu64
-           " passes dearer of %d, %" PRIu64 " looks of %d, %" PRIu64 " wrong\n", count.lists, LISTS, count.choices, CHOICES, count.ties,
-           TIES, count.dearer, DEARER, count.looks, LOOKS, count.wrong);
-    return count.lists != LISTS || count.choices != CHOICES || count.ties != TIES || count.dearer != DEARER || count.looks != LOOKS
-        || count.wrong != 0;
+    for (size_t i = 0; i < sizeof rounds / sizeof rounds[0]; i++)
+        well &= try_round(&rounds[i]);
+    return !well;
 }

@@ -38,15 +38,15 @@ struct shape {
     uint32_t number;
 };
 
-/* At P = 10 no merge, then merges 1 to 4; all stored at the greatest price; refused at the price, and at the last record. */
+/* At 10 disk bytes for an entry no merge, then merges 1 to 4; all stored at the greatest price; refused at the price, and at the last record. */
 static const struct shape shapes[] = {
-    { "matches kept", 10, 1, 20, 1, 0, ACCEPTED },
-    { "merge 1", 10, 1, 19, 1, 2, ACCEPTED },
-    { "merges 2 and 3", 10, 1, 5, 9, 7, ACCEPTED },
-    { "merge 4", 10, 1, 4, 1, 0, ACCEPTED },
+    { "matches kept", 10, 256, 20, 1, 0, ACCEPTED },
+    { "merge 1", 10, 256, 19, 1, 2, ACCEPTED },
+    { "merges 2 and 3", 10, 256, 5, 9, 7, ACCEPTED },
+    { "merge 4", 10, 256, 4, 1, 0, ACCEPTED },
     { "all stored", 255, 65535, 9, 40, 3, ACCEPTED },
-    { "price refused", 0, 1, 9, 1, 3, BAD_PRICE },
-    { "last record refused", 10, 1, 9, 1, 3, MALFORMED_RECORD },
+    { "price refused", 0, 256, 9, 1, 3, BAD_PRICE },
+    { "last record refused", 10, 256, 9, 1, 3, MALFORMED_RECORD },
 };
 
 enum { SHAPES = sizeof shapes / sizeof *shapes };

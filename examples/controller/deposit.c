@@ -2,8 +2,9 @@
  *
  *   deposit OLD NEW [E F]
  *
- * OLD is the store and NEW the version of document 01; E and F are the price, 16 and 4 where they are not given. It finds matches,
- * measures the list found, hands it to pass and to partition, and rebuilds NEW from what partition wrote. Nothing goes to disk.
+ * OLD is the store and NEW the version of document 01; E and F are the price, 16 and 1024 where they are not given, F in 256ths of a disk
+ * byte. It finds matches, measures the list found, hands it to pass and to partition, and rebuilds NEW from what partition wrote. Costs
+ * are printed in disk bytes. Nothing goes to disk.
  *
  * In order: errors; files; the list; the finder of matches; the calls; the report. Exit 0 where NEW came back, else 1 and one line.
  */
@@ -251,21 +252,27 @@ static int rebuilds(const struct deposit *d, const struct written *w)
 
 /* ---- The report ---- */
 
+/* A cost in disk bytes. */
+static double in_disk_bytes(uint64_t cost)
+{
+    return (double)cost / DISK_BYTE;
+}
+
 static void print_row(const char *way, struct answer a)
 {
-    printf("%-22s %8" PRIu32 " %13" PRIu32 " %13" PRIu64 "\n", way, a.entries, a.stored, a.cost);
+    printf("%-22s %8" PRIu32 " %13" PRIu32 " %13.2f\n", way, a.entries, a.stored, in_disk_bytes(a.cost));
 }
 
 static void print_saved(const char *beside, uint64_t cost, uint64_t least)
 {
     const double share = cost == 0 ? 0 : 100.0 * (double)(cost - least) / (double)cost;
-    printf("saved beside %-19s %26" PRIu64 " (%.1f %%)\n", beside, cost - least, share);
+    printf("saved beside %-19s %26.2f (%.1f %%)\n", beside, in_disk_bytes(cost - least), share);
 }
 
 static void print_report(const struct deposit *d, struct answer found, struct answer passed, struct answer least)
 {
-    printf("store %zu bytes, version %zu bytes; E %" PRIu32 ", F %" PRIu32 ": an entry costs %" PRIu32 " disk bytes\n\n",
-           d->store.length, d->version.length, d->e, d->f, d->e * d->f);
+    printf("store %zu bytes, version %zu bytes; E %" PRIu32 ", F %" PRIu32 ": an entry costs %.2f disk bytes\n\n",
+           d->store.length, d->version.length, d->e, d->f, in_disk_bytes((uint64_t)d->e * d->f));
     printf("%-22s %8s %13s %13s\n", "list", "entries", "stored bytes", "cost");
     print_row("every match kept", found);
     print_row("the pass", passed);
@@ -303,7 +310,7 @@ int main(int count, char **arguments)
         fail("usage: deposit OLD NEW [E F]");
     struct deposit *d = allocate(sizeof *d);
     d->e = count == 5 ? number_of(arguments[3]) : 16;
-    d->f = count == 5 ? number_of(arguments[4]) : 4;
+    d->f = count == 5 ? number_of(arguments[4]) : 4 * DISK_BYTE;
     d->store = read_file(arguments[1], STORE_MOST);
     d->version = read_file(arguments[2], VERSION_MOST);
     d->found.records = 0;

@@ -1,7 +1,7 @@
-/* reference.c - the five calls of document 01 a second time, in plain C.
+/* reference.c - the five calls of document 01, with F and costs in 256ths of a disk byte (document 02, S-1), a second time, in plain C.
  *
- * In order: limits; reading and writing of fields; the checks of the inputs; measure, rebuild and check; the least choice;
- * the pass; what partition and pass write. It shares no line with the library and takes nothing from its header.
+ * In order: limits; reading and writing of fields; the checks of the inputs; the cost; measure, rebuild and check; the least
+ * choice; the pass; what partition and pass write. It shares no line with the library and takes nothing from its header.
  */
 #include "reference.h"
 
@@ -148,6 +148,20 @@ static struct answer walk(const struct inputs *in)
     return a;
 }
 
+/* ---- The cost, in 256ths of a disk byte ---- */
+
+/* What an entry costs: P. */
+static uint64_t entry_cost(uint32_t e, uint32_t f)
+{
+    return (uint64_t)f * e;
+}
+
+/* What so many stored bytes cost. */
+static uint64_t bytes_cost(uint64_t bytes)
+{
+    return 256 * bytes;
+}
+
 /* ---- Measure, rebuild and check ---- */
 
 uint32_t ref_measure(uint32_t e, uint32_t f,
@@ -160,7 +174,7 @@ uint32_t ref_measure(uint32_t e, uint32_t f,
     const uint32_t fault = bad_price(e, f) ? 1 : bad_length(&in);
     struct answer a = fault != 0 ? refused(fault, 0) : walk(&in);
     if (a.number == 0)
-        a.cost = (uint64_t)e * f * a.entries + a.stored;
+        a.cost = entry_cost(e, f) * a.entries + bytes_cost(a.stored);
     return give(&a, answer);
 }
 
@@ -246,7 +260,7 @@ static void fill_costs(const uint8_t *list, size_t n, uint64_t price)
     after_kept[n] = 0;
     after_new[n] = 0;
     for (size_t i = n; i-- > 0;) {
-        const uint64_t joined = size_of(list, i) + after_new[i + 1];
+        const uint64_t joined = bytes_cost(size_of(list, i)) + after_new[i + 1];
         const uint64_t kept = price + after_kept[i + 1];
         const int is_new = list[RECORD * i] == NEW;
         after_new[i] = is_new ? joined : lesser(kept, joined);
@@ -260,7 +274,7 @@ static void choose_least(const uint8_t *list, size_t n, uint64_t price, uint8_t 
     fill_costs(list, n, price);
     uint64_t entry = price;
     for (size_t i = 0; i < n; i++) {
-        const uint64_t joined = entry + size_of(list, i) + after_new[i + 1];
+        const uint64_t joined = entry + bytes_cost(size_of(list, i)) + after_new[i + 1];
         const uint64_t kept = price + after_kept[i + 1];
         choice[i] = list[RECORD * i] == NEW || joined < kept;
         entry = choice[i] ? 0 : price;
@@ -296,25 +310,26 @@ static void fuse_after(uint16_t p)
 }
 
 /* One look at p: where p goes. */
-static uint16_t look(uint16_t p, uint32_t price)
+static uint16_t look(uint16_t p, uint64_t price)
 {
     const uint16_t b = before[p], a = after[p];
+    const uint64_t stored = bytes_cost(size[p]), both_stored = bytes_cost((uint64_t)size[p] + size[a]);
     if (kind[p] != MATCH)
         return a;
-    if (kind[b] == NEW && kind[a] == NEW && size[p] < 2 * price) {
+    if (kind[b] == NEW && kind[a] == NEW && stored < 2 * price) {
         fuse_after(p);
         fuse_after(b);
         return after[b];
     }
-    if (kind[b] == NEW && size[p] < price) {
+    if (kind[b] == NEW && stored < price) {
         fuse_after(b);
         return a;
     }
-    if (kind[a] == NEW && size[p] < price) {
+    if (kind[a] == NEW && stored < price) {
         fuse_after(p);
         return b;
     }
-    if (kind[a] == MATCH && kind[b] != NEW && kind[after[a]] != NEW && size[p] + size[a] < price) {
+    if (kind[a] == MATCH && kind[b] != NEW && kind[after[a]] != NEW && both_stored < price) {
         fuse_after(p);
         return b;
     }
@@ -322,7 +337,7 @@ static uint16_t look(uint16_t p, uint32_t price)
 }
 
 /* Looks until p is the rear, then reads the choice off the list; the number of looks. */
-static uint32_t choose_by_pass(const uint8_t *list, size_t n, uint32_t price, uint8_t *choice)
+static uint32_t choose_by_pass(const uint8_t *list, size_t n, uint64_t price, uint8_t *choice)
 {
     const uint16_t rear = (uint16_t)(n + 1);
     uint32_t looks = 0;
@@ -386,7 +401,7 @@ static struct answer write_choice(const struct job *job)
         from += run;
         a.stored += run;
     }
-    a.cost = (uint64_t)job->e * job->f * a.entries + a.stored;
+    a.cost = entry_cost(job->e, job->f) * a.entries + bytes_cost(a.stored);
     return a;
 }
 
@@ -405,7 +420,7 @@ uint32_t ref_partition(uint32_t e, uint32_t f,
                              choice, list_area, block_area, choice_len, list_area_len, block_area_len };
     struct answer a = judge(&job);
     if (a.number == 0) {
-        choose_least(list, list_len / RECORD, (uint64_t)e * f, choice);
+        choose_least(list, list_len / RECORD, entry_cost(e, f), choice);
         a = write_choice(&job);
     }
     return give(&a, answer);
@@ -426,7 +441,7 @@ uint32_t ref_pass(uint32_t e, uint32_t f,
                              choice, list_area, block_area, choice_len, list_area_len, block_area_len };
     struct answer a = judge(&job);
     if (a.number == 0) {
-        const uint32_t looks = choose_by_pass(list, list_len / RECORD, e * f, choice);
+        const uint32_t looks = choose_by_pass(list, list_len / RECORD, entry_cost(e, f), choice);
         a = write_choice(&job);
         a.looks = looks;
     }

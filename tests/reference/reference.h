@@ -1,4 +1,4 @@
-/* reference.h - the five calls of document 01 a second time, in plain C.
+/* reference.h - the five calls of document 01, with F and costs in 256ths of a disk byte (document 02, S-1), a second time, in plain C.
  *
  * Scope: what the differential test compares the library with, and what the benchmark takes for its baseline. The calls have
  * the signatures of controller.h, with the prefix ref_; areas, answer area, numbers and their order are those of document 01.

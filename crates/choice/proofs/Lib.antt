@@ -1,3 +1,4 @@
 pub mod Path
 pub mod Least
 pub mod Lists
+pub mod Scaling

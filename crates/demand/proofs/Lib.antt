@@ -1,3 +1,4 @@
 pub mod WrittenList
 pub mod Demanding
 pub mod WorkedHolds
+pub mod ScalingHolds

@@ -1,2 +1,3 @@
 pub mod Demand
 pub mod Worked
+pub mod Scaling

@@ -9,3 +9,4 @@ pub mod Rounds
 pub mod Loading
 pub mod Reading
 pub mod Passing
+pub mod Scaling

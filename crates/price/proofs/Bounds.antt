@@ -38,15 +38,15 @@ rates-fit k h =
     let p = product-most (k .f) (k .e) 65535 255 (r .f-most) (r .e-most) in
     record { fresh-most = p; kept-most = p; byte-most = omega arith }
 
--- ---- the rates at the price p of an entry
+-- ---- the rates at the price p of an entry and b of a stored byte
 
 pub entries : (l : List Record) → news l + matches l ≡ length l
 entries [] = refl
 entries (New s ∷ l) = omega (arith, entries l)
 entries (Match s a ∷ l) = omega (arith, entries l)
 
-pub cost-at : (p : ℕ) (l : List Record) → cost (ratesAt p) l ≡ p * length l + stored l
-cost-at p l = rw (← entries l) (omega arith)
+pub cost-at : (p b : ℕ) (l : List Record) → cost (ratesAt p b) l ≡ p * length l + b * stored l
+cost-at p b l = rw (← entries l) (omega arith)
 
 pub news-cons : (r : Record) (l : List Record) → news (r ∷ l) ≡ news (r ∷ []) + news l
 news-cons (New s) l = omega arith

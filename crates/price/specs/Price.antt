@@ -1,4 +1,4 @@
--- Document 01, "The price".
+-- Document 01, "The price", with F and all costs in 256ths of a disk byte: document 02, S-1.
 -- Assumes nothing.
 use Prim.Native.Nat.{ℕ, suc, _+_, _*_, _≤_, _<_}
 use mathlib.Core.Path.{_≡_}
@@ -11,7 +11,7 @@ use Rattle.format.specs.declared.Record.the-variants.{New, Match}
 use Rattle.format.specs.Limits.{listMost}
 use Rattle.format.specs.Record.{recordsOf}
 use Rattle.format.specs.Meaning.{stored}
-use Rattle.price.specs.declared.DiskBytes.{DiskBytes}
+use Rattle.price.specs.declared.Cost.{Cost}
 use Rattle.price.specs.declared.Price.{Price}
 use Rattle.price.specs.declared.Rates.{Rates}
 
@@ -19,17 +19,21 @@ use Rattle.price.specs.declared.Rates.{Rates}
 abbrev pub priceFits : Price → Bool
 priceFits k = leb 1 (k .e) && leb (k .e) 255 && leb 1 (k .f) && leb (k .f) 65535
 
--- P, in disk bytes: E index bytes for an entry, F disk bytes for each
+-- P, in 256ths of a disk byte: E index bytes for an entry, F 256ths for each
 abbrev pub entryPrice : Price → ℕ
 entryPrice k = k .f * k .e
 
--- an entry costs p, new or match, and a stored byte costs 1
-abbrev pub ratesAt : ℕ → Rates
-ratesAt p = record { fresh = record { 0 = p }; kept = record { 0 = p }; byte = record { 0 = 1 } }
+-- an entry costs p, new or match, and a stored byte costs b
+abbrev pub ratesAt : ℕ → ℕ → Rates
+ratesAt p b = record { fresh = record { 0 = p }; kept = record { 0 = p }; byte = record { 0 = b } }
 
--- document 01's rates: P, P and 1
+-- P, P and 256: a disk byte has 256 256ths
 abbrev pub ratesOf : Price → Rates
-ratesOf k = ratesAt (entryPrice k)
+ratesOf k = ratesAt (entryPrice k) 256
+
+-- rates that are all multiplied by one number
+abbrev pub scaled : ℕ → Rates → Rates
+scaled k r = record { fresh = record { 0 = k * r .fresh .0 }; kept = record { 0 = k * r .kept .0 }; byte = record { 0 = k * r .byte .0 } }
 
 -- ---- the cost of a list
 
@@ -44,7 +48,7 @@ matches [] = 0
 matches (New s ∷ l) = matches l
 matches (Match s a ∷ l) = suc (matches l)
 
--- what a list costs at the rates r, in disk bytes; at document 01's rates, P × entries + stored bytes: formula (1) of source document 001 (`cost-at`)
+-- what a list costs at the rates r; at a price's rates, "F × E × entries + 256 × stored bytes" (`cost-at`)
 abbrev pub cost : Rates → List Record → ℕ
 cost r l = r .fresh .0 * news l + r .kept .0 * matches l + r .byte .0 * stored l
 
@@ -55,7 +59,7 @@ pub record RatesFit (r : Rates) : Type 0 where
   pub byte-most : r .byte .0 ≤ 256
 
 -- what n stored bytes cost, where n is below 2³²
-pub record Storing (r : Rates) (n : ℕ) (d : DiskBytes) : Type 0 where
+pub record Storing (r : Rates) (n : ℕ) (d : Cost) : Type 0 where
   pub is : d .0 ≡ r .byte .0 * n
   pub most : d .0 < 1099511627776
 

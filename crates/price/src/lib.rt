@@ -1,6 +1,7 @@
 // The price, the rates that it comes to, and the cost of a list.
 //
-// Index bytes and disk bytes are two units: `worth` alone brings them together.
+// Three units: index bytes, disk bytes, and 256ths of a disk byte, in which every cost is. `index_cost` takes index bytes to it by the factor,
+// `disk_cost` takes disk bytes to it by 256.
 ghost use mathlib.Core.Path.{_≡_};
 ghost use Prim.Native.Nat.{_*_, _≤_, _<_};
 ghost use mathlib.Core.List.{[], _∷_};
@@ -12,10 +13,13 @@ use format::Record;
 // Bytes of the index.
 pub struct IndexBytes(pub u64);
 
-// Bytes of disk, the unit of cost.
+// Bytes of disk.
 pub struct DiskBytes(pub u64);
 
-// E, the index bytes of an entry, and F, the disk bytes that one of them is worth.
+// 256ths of a disk byte, the unit of cost.
+pub struct Cost(pub u64);
+
+// E, the index bytes of an entry, and F, the 256ths of a disk byte that one of them is worth.
 pub struct Price {
     pub e: u32,
     pub f: u32,
@@ -23,17 +27,25 @@ pub struct Price {
 
 // What a list costs by its parts: a new entry, a kept match, and a stored byte.
 pub struct Rates {
-    pub fresh: DiskBytes,
-    pub kept: DiskBytes,
-    pub byte: DiskBytes,
+    pub fresh: Cost,
+    pub kept: Cost,
+    pub byte: Cost,
 }
 
-// The disk bytes that index bytes are worth, at so many for each.
-pub fn worth(index: IndexBytes, factor: u32) -> DiskBytes
+// What index bytes cost: the factor for each.
+pub fn index_cost(index: IndexBytes, factor: u32) -> Cost
     requires { ⌜ index .0 < 4294967296 ⌝ }
     ensures { λ r. ⌜ r ≡ record { 0 = factor * index .0 } ⌝ }
 {
-    DiskBytes((factor as u64) * index.0)
+    Cost((factor as u64) * index.0)
+}
+
+// What disk bytes cost: 256 for each.
+pub fn disk_cost(disk: DiskBytes) -> Cost
+    requires { ⌜ disk .0 < 4294967296 ⌝ }
+    ensures { λ r. ⌜ r ≡ record { 0 = 256 * disk .0 } ⌝ }
+{
+    Cost(256 * disk.0)
 }
 
 // Check 1: whether E and F are in their ranges.
@@ -52,24 +64,25 @@ pub fn in_range(price: Price) -> bool
     price.f <= 65535
 }
 
-// The rates of a price: an entry costs P, new or match, and a stored byte costs 1.
+// The rates of a price: an entry costs P, new or match, and a stored byte costs 256.
 pub fn rates_of(price: Price) -> Rates
     ensures { λ r. ⌜ r ≡ ratesOf price ⌝ }
 {
-    let p = worth(IndexBytes(price.e as u64), price.f);
+    let p = index_cost(IndexBytes(price.e as u64), price.f);
+    let byte = disk_cost(DiskBytes(1));
     Rates {
         fresh: p,
         kept: p,
-        byte: DiskBytes(1),
+        byte,
     }
 }
 
 // What so many stored bytes cost.
-pub fn storing(rates: Rates, bytes: u32) -> DiskBytes
+pub fn storing(rates: Rates, bytes: u32) -> Cost
     requires { ⌜ RatesFit rates ⌝ }
     ensures { λ r. ⌜ Storing rates bytes r ⌝ }
 {
-    DiskBytes(rates.byte.0 * (bytes as u64))
+    Cost(rates.byte.0 * (bytes as u64))
 }
 
 // 1 for a new record, 0 for a match.
@@ -98,12 +111,12 @@ fn tally(list: &[u8]) -> u64
 }
 
 // The cost of a list that has so many stored bytes.
-pub fn cost_of(rates: Rates, list: &[u8], stored: u32) -> DiskBytes
+pub fn cost_of(rates: Rates, list: &[u8], stored: u32) -> Cost
     requires { ⌜ Countable rates (now list) stored ⌝ }
     ensures { λ r. ⌜ r .0 ≡ cost rates (recordsOf (now (list .entry))) ⌝ }
 {
     let fresh = tally(list);
     let kept = ((list.len() / 12) as u64) - fresh;
     let bytes = storing(rates, stored);
-    DiskBytes(rates.fresh.0 * fresh + rates.kept.0 * kept + bytes.0)
+    Cost(rates.fresh.0 * fresh + rates.kept.0 * kept + bytes.0)
 }

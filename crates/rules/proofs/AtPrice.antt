@@ -1,30 +1,38 @@
--- The tests of the merges at the price of an entry, as document 01 has them.
+-- The tests of the merges at the price p of an entry and b of a stored byte: "each size is multiplied by 256 before it is compared with P or 2P" is
+-- b = 256. And at rates that are all multiplied by one number above 0 the tests are the same.
 -- Assumes nothing.
-use Prim.Native.Nat.{ℕ, _+_, _*_, _≤_, _<_}
+use Prim.Native.Nat.{ℕ, _+_, _*_, _<_}
 use native.Mathlib.Omega.{arith}
-use mathlib.Core.Path.{_≡_, refl, sym}
-use mathlib.Core.Bool.{Bool, true, false}
+use mathlib.Core.Path.{_≡_, refl}
+use mathlib.Core.Bool.{Bool}
 use lib.Dec.{ltb}
-use borrow.Author.Tests.{ltb-true, ltb-false, lt-ltb, le-ltb}
-use Rattle.price.specs.Price.{ratesAt}
+use Rattle.price.specs.declared.Rates.{Rates}
+use Rattle.price.specs.Price.{ratesAt, scaled}
+use Rattle.price.proofs.Scaling.{ltb-same, ltb-scaled}
 use Rattle.rules.specs.Rules.{testsOf}
 
-ltb-same : (a b m n : ℕ) → (a < b → m < n) → (b ≤ a → n ≤ m) → ltb a b ≡ ltb m n
-ltb-same a b m n f g = go (ltb a b) refl
-  where
-    go : (t : Bool) → ltb a b ≡ t → t ≡ ltb m n
-    go true e = sym (lt-ltb m n (f (ltb-true a b e)))
-    go false e = sym (le-ltb m n (g (ltb-false a b e)))
+pub record TestsAt (p b : ℕ) : Type 0 where
+  pub lone-at : (s : ℕ) → testsOf (ratesAt p b) .lone s ≡ ltb (b * s) (2 * p)
+  pub side-at : (s : ℕ) → testsOf (ratesAt p b) .side s ≡ ltb (b * s) p
+  pub pair-at : (s : ℕ) → testsOf (ratesAt p b) .pair s ≡ ltb (b * s) p
 
-pub record TestsAt (p : ℕ) : Type 0 where
-  pub lone-at : (s : ℕ) → testsOf (ratesAt p) .lone s ≡ ltb s (2 * p)
-  pub side-at : (s : ℕ) → testsOf (ratesAt p) .side s ≡ ltb s p
-  pub pair-at : (s : ℕ) → testsOf (ratesAt p) .pair s ≡ ltb s p
-
-pub tests-at : (p : ℕ) → TestsAt p
-tests-at p =
+pub tests-at : (p b : ℕ) → TestsAt p b
+tests-at p b =
     record {
-      lone-at = λ s. ltb-same (1 * s) (p + p) s (2 * p) (λ h. omega arith) (λ h. omega arith);
-      side-at = λ s. ltb-same (1 * s) p s p (λ h. omega arith) (λ h. omega arith);
-      pair-at = λ s. ltb-same (1 * s + p) (2 * p) s p (λ h. omega arith) (λ h. omega arith);
+      lone-at = λ s. ltb-same (b * s) (p + p) (b * s) (2 * p) (λ h. omega arith) (λ h. omega arith);
+      side-at = λ s. refl;
+      pair-at = λ s. ltb-same (b * s + p) (2 * p) (b * s) p (λ h. omega arith) (λ h. omega arith);
     }
+
+-- rates that are all multiplied by one number above 0 have the same tests
+pub tests-scaled : (k : ℕ) → 0 < k → (r : Rates) → testsOf (scaled k r) ≡ testsOf r
+tests-scaled k above r = λ i. record { lone = λ s. lone s i; side = λ s. side s i; pair = λ s. pair s i }
+  where
+    lone : (s : ℕ) → testsOf (scaled k r) .lone s ≡ testsOf r .lone s
+    lone s = ltb-scaled k above (k * r .byte .0 * s) (k * r .kept .0 + k * r .fresh .0) (r .byte .0 * s) (r .kept .0 + r .fresh .0) (omega arith) (omega arith)
+
+    side : (s : ℕ) → testsOf (scaled k r) .side s ≡ testsOf r .side s
+    side s = ltb-scaled k above (k * r .byte .0 * s) (k * r .kept .0) (r .byte .0 * s) (r .kept .0) (omega arith) refl
+
+    pair : (s : ℕ) → testsOf (scaled k r) .pair s ≡ testsOf r .pair s
+    pair s = ltb-scaled k above (k * r .byte .0 * s + k * r .fresh .0) (2 * (k * r .kept .0)) (r .byte .0 * s + r .fresh .0) (2 * r .kept .0) (omega arith) (omega arith)

@@ -6,7 +6,7 @@ ghost use mathlib.Core.Path.{_≡_};
 ghost use Prim.Native.Nat.{_+_, _≤_};
 ghost use Rattle.price.specs.Price.{RatesFit};
 ghost use Rattle.rules.specs.Rules.{Item, new, match, testsOf, outcomeAt, cellItem};
-use price::DiskBytes;
+use price::Cost;
 use price::Rates;
 
 // A merge, by what becomes one with p, and the bytes fused: the size of the record made.
@@ -35,7 +35,7 @@ fn after_new(rates: Rates, before: u32, size: u32, after: Cell) -> Outcome
     ensures { λ r. ⌜ ((second : Item) → r ≡ outcomeAt (testsOf rates) (new before) (match size) (cellItem after) second) ⌝ }
 {
     let bytes = price::storing(rates, size);
-    let both = DiskBytes(rates.kept.0 + rates.fresh.0);
+    let both = Cost(rates.kept.0 + rates.fresh.0);
     if after.kind == 0 {
         if bytes.0 < both.0 {
             return Outcome::Merged(Merge::Both(before + size + after.size));

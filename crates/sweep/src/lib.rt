@@ -8,25 +8,25 @@ ghost use lib.ListN.{length};
 ghost use Rattle.price.specs.Price.{RatesFit};
 ghost use Rattle.sweep.specs.Sweep.{Turned, Room, Back, nextBit, forwards, LeastIn};
 use format::Record;
-use price::DiskBytes;
+use price::Cost;
 use price::Rates;
 
 // What a record comes to: the least costs from it on, after a kept and after a stored record, and its two bits.
 pub struct Turn {
-    pub kept: DiskBytes,
-    pub stored: DiskBytes,
+    pub kept: Cost,
+    pub stored: Cost,
     pub hint: u8,
 }
 
 // One record from the rear: `kept` and `stored` are the least costs of what follows it, after it is kept and after it is stored.
-fn weigh(rates: Rates, record: Record, kept: DiskBytes, stored: DiskBytes) -> Turn
+fn weigh(rates: Rates, record: Record, kept: Cost, stored: Cost) -> Turn
     requires { ⌜ (RatesFit rates) × (kept .0 ≤ 4503599644082176) × (stored .0 ≤ 4503599644082176) ⌝ }
     ensures { λ t. ⌜ Turned rates «record» (kept .0) (stored .0) t ⌝ }
 {
     let bytes = price::storing(rates, choice::size_of(record));
-    let keep = DiskBytes(rates.kept.0 + kept.0);
-    let fresh = DiskBytes(rates.fresh.0 + bytes.0 + stored.0);
-    let joined = DiskBytes(bytes.0 + stored.0);
+    let keep = Cost(rates.kept.0 + kept.0);
+    let fresh = Cost(rates.fresh.0 + bytes.0 + stored.0);
+    let joined = Cost(bytes.0 + stored.0);
     if let Record::New(_) = record {
         return Turn {
             kept: fresh,
@@ -56,13 +56,13 @@ fn weigh(rates: Rates, record: Record, kept: DiskBytes, stored: DiskBytes) -> Tu
 }
 
 // The sweep from the rear: the two bits of each record, and the least cost of all.
-fn backwards(rates: Rates, list: &[u8], n: usize, choice: &mut [u8]) -> DiskBytes
+fn backwards(rates: Rates, list: &[u8], n: usize, choice: &mut [u8]) -> Cost
     requires { ⌜ Room rates (now list) n (now choice) ⌝ }
     ensures { λ r. ⌜ Back rates (now (list .entry)) n (now (choice .entry)) (now (choice .exit)) (r .0) ⌝ }
 {
     let mut i = n;
-    let mut kept = DiskBytes(0);
-    let mut stored = DiskBytes(0);
+    let mut kept = Cost(0);
+    let mut stored = Cost(0);
     while 0 < i {
         i -= 1;
         let t = weigh(rates, format::record_at(list, i), kept, stored);
@@ -98,7 +98,7 @@ fn settle(n: usize, choice: &mut [u8])
 }
 
 // The least choice, one byte for each record, and the cost of its list.
-pub fn least_choice(rates: Rates, list: &[u8], choice: &mut [u8]) -> DiskBytes
+pub fn least_choice(rates: Rates, list: &[u8], choice: &mut [u8]) -> Cost
     requires { ⌜ Room rates (now list) (length (now list) / 12) (now choice) ⌝ }
     ensures { λ r. ⌜ LeastIn rates (now (list .entry)) (now (choice .entry)) (now (choice .exit)) (r .0) ⌝ }
 {

@@ -3,14 +3,17 @@ use borrow.Author.Needs.{needs}
 use Rattle.price.proofs.rates_of.Statement.{statement}
 use Rattle.price.proofs.rates_of.Tie as tie
 
-cast-t3 : tie.Need-cast-t3
-cast-t3 c = search needs
+cast-t4 : tie.Need-cast-t4
+cast-t4 c = search needs
 
-worth-requires : tie.Need-worth-requires
-worth-requires c κs = search needs
+index-cost-requires : tie.Need-index-cost-requires
+index-cost-requires c κs = search needs
+
+disk-cost-requires : tie.Need-disk-cost-requires
+disk-cost-requires c κs = search needs
 
 returns : tie.Need-returns
-returns c = rw (c .worth .ensures)
+returns c = rw (c .before .index-cost .ensures, c .disk-cost .ensures)
 
 pub rates-of-spec : {M : Type 1} → statement M
-rates-of-spec = tie.close (tie.spec cast-t3 worth-requires returns)
+rates-of-spec = tie.close (tie.spec cast-t4 index-cost-requires disk-cost-requires returns)
