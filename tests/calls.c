@@ -152,7 +152,7 @@ static const struct {
     struct values want;
 } measures[] = {
     { "no records", 10, 256, "", { 0 } },
-    { "both kinds", 10, 256, "N5 M19@0 M4@7 N7", { .cost = 256 * 52, .entries = 4, .stored = 12, .whole = 35 } },
+    { "both kinds", 10, 256, "N5 M19@0 M4@7 N7", { .cost = DISK_BYTE * 52, .entries = 4, .stored = 12, .whole = 35 } },
     { "E 255, F 65535", 255, 65535, "M8@1 N3", { .cost = 33423618, .entries = 2, .stored = 3, .whole = 11 } },
     { "E 1, F 1", 1, 1, "M8@1", { .cost = 1, .entries = 1, .whole = 8 } },
     { "sizes of 16777216", 10, 256, "N16777215 M1@0", { .cost = UINT64_C(4294972160), .entries = 2, .stored = 16777215, .whole = 16777216 } },

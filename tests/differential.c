@@ -10,7 +10,7 @@
  *
  *   differential [seed]
  *
- * The same seed gives the same inputs. Exit 0 where nothing differs and every number of document 01 was reached, else 1.
+ * The same seed gives the same inputs. Exit 0 where nothing differs and every number of document 01 and factor of note was reached, else 1.
  */
 #include <inttypes.h>
 #include <signal.h>
@@ -380,6 +380,16 @@ static int compare(int call, const struct input *in)
 
 static uint64_t dearer_passes, ties;
 
+/* The factors at which a partition must have been accepted: the edges, and around one disk byte. */
+static struct { uint32_t f; uint64_t accepted; } factors[] = { { 1, 0 }, { 255, 0 }, { 256, 0 }, { 257, 0 }, { 65535, 0 } };
+enum { FACTORS = sizeof factors / sizeof factors[0] };
+
+static void tally_factor(const struct input *in)
+{
+    for (int i = 0; i < FACTORS; i++)
+        factors[i].accepted += in->f == factors[i].f;
+}
+
 /* The list and stored block that document 01 makes of a choice, into the areas of the laws; how many records. */
 static size_t list_of_choice(const struct input *in, const uint8_t *choice, size_t *stored)
 {
@@ -532,6 +542,7 @@ static void try_input(const struct input *in)
     compare(CHECK, in);
     const int accepted = compare(PARTITION, in);
     if (accepted) {
+        tally_factor(in);
         law_of_choice(PARTITION, in);
         law_of_measure(PARTITION, in);
         law_of_rebuild(PARTITION, in);
@@ -655,13 +666,13 @@ static void append_records(struct input *in, const struct shape *shape)
     }
 }
 
-/* A price: mostly small, so that few bytes reach P and 2P; a factor of a whole disk byte, a 256th less or more, any up to 3, or an edge. */
+/* A price: mostly small, so that few bytes reach P and 2P; F is whole disk bytes, any number of 256ths up to 3 of them, or an edge. */
 static void draw_price(struct input *in)
 {
     const int big = one_in(16);
-    const uint32_t factors[8] = { 1, 255, 256, 257, 65535, 256 * (1 + below(3)), 1 + below(768), 1 + below(65535) };
+    const uint32_t small[8] = { 255, 256, 257, 256 * (1 + below(3)), 256 * (1 + below(3)), 1 + below(768), 1 + below(768), 1 };
     in->e = big ? 255 : one_in(3) ? 1 : 1 + below(12);
-    in->f = factors[big ? 4 + 3 * below(2) : below(8)];
+    in->f = big || one_in(16) ? (one_in(2) ? 65535 : 1 + below(65535)) : small[below(8)];
 }
 
 static struct input draw_input(const struct shape *shape)
@@ -1065,12 +1076,21 @@ static void print_table(void)
     }
     printf("short lists with another choice as cheap: %" PRIu64 "; passes dearer than partition: %" PRIu64 "\n", ties,
            dearer_passes);
+    printf("partitions accepted");
+    for (int i = 0; i < FACTORS; i++)
+        printf("%s %" PRIu64 " at F %" PRIu32, i == 0 ? ":" : ",", factors[i].accepted, factors[i].f);
+    printf("\n");
 }
 
-/* How many required columns were never reached. */
+/* How many required columns and factors were never reached. */
 static int missing(void)
 {
     int count = 0;
+    for (int i = 0; i < FACTORS; i++)
+        if (factors[i].accepted == 0) {
+            printf("differential: no partition was accepted at F %" PRIu32 "\n", factors[i].f);
+            count++;
+        }
     for (int call = 0; call < CALLS; call++)
         for (int column = 0; column < COLUMNS; column++)
             if (required[call][column] == 'x' && reached[call][column] == 0) {

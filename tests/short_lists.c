@@ -523,17 +523,17 @@ static void try_all_from(const struct input *in)
  * choices there are 1 + 3 * 5 + 8 * 25 + 22 * 125 + 60 * 625 + 164 * 3,125 + 448 * 15,625. */
 enum { LISTS = 374461, CHOICES = 7552966 };
 
-/* A price, and what was counted once at it: lists of which two choices or more cost least, passes dearer than partition, looks. At 511 the
- * rules apply as at 512, where a match of 4 or 8 bytes costs as much as the entries that it would spare; so there are as many looks, and
- * of the ties none that a whole number made. */
+/* A price, and what was counted once at it: lists of which two choices or more cost least, passes dearer than partition, looks. At 512 a
+ * match of 4 or 8 bytes costs just as much as one entry or two, and at 448 one of 7 as much as two; at 511 and 513 no number of entries up
+ * to 127 costs as much as any number of bytes, and no tie is left. At 511 the rules apply as at 512, so there are as many looks. */
 static const struct round {
     uint32_t factor;
     uint64_t ties, dearer, looks;
 } rounds[] = {
     { 512, 156779, 56252, 2160733 },
-    { 511, 0, 0, 0 },
-    { 513, 0, 0, 0 },
-    { 448, 0, 0, 0 },
+    { 511, 0, 56252, 2160733 },
+    { 513, 0, 16981, 2156692 },
+    { 448, 65920, 26437, 2214766 },
 };
 
 /* Tries all lists at a price; whether all went well. */

@@ -260,20 +260,20 @@ static double in_disk_bytes(uint64_t cost)
 
 static void print_row(const char *way, struct answer a)
 {
-    printf("%-22s %8" PRIu32 " %13" PRIu32 " %13.2f\n", way, a.entries, a.stored, in_disk_bytes(a.cost));
+    printf("%-22s %8" PRIu32 " %13" PRIu32 " %19.2f\n", way, a.entries, a.stored, in_disk_bytes(a.cost));
 }
 
 static void print_saved(const char *beside, uint64_t cost, uint64_t least)
 {
     const double share = cost == 0 ? 0 : 100.0 * (double)(cost - least) / (double)cost;
-    printf("saved beside %-19s %26.2f (%.1f %%)\n", beside, in_disk_bytes(cost - least), share);
+    printf("saved beside %-19s %32.2f (%.1f %%)\n", beside, in_disk_bytes(cost - least), share);
 }
 
 static void print_report(const struct deposit *d, struct answer found, struct answer passed, struct answer least)
 {
     printf("store %zu bytes, version %zu bytes; E %" PRIu32 ", F %" PRIu32 ": an entry costs %.2f disk bytes\n\n",
            d->store.length, d->version.length, d->e, d->f, in_disk_bytes((uint64_t)d->e * d->f));
-    printf("%-22s %8s %13s %13s\n", "list", "entries", "stored bytes", "cost");
+    printf("%-22s %8s %13s %19s\n", "list", "entries", "stored bytes", "cost in disk bytes");
     print_row("every match kept", found);
     print_row("the pass", passed);
     print_row("partition", least);

@@ -3,7 +3,7 @@
 --   OFFSET  SIZE  FIELD (lowest byte first; what a call does not give is 0)
 --   0       4     number: 0 accepted
 --   4       4     place
---   8       8     cost
+--   8       8     cost, in 256ths of a disk byte
 --   16      4     entries
 --   20      4     stored bytes
 --   24      4     looks

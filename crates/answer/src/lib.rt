@@ -6,6 +6,7 @@ ghost use Rattle.format.specs.Record.{word};
 ghost use Rattle.area.specs.Area.{pasted};
 ghost use Rattle.answer.specs.Layout.{toldOf, given};
 use format::Answer;
+use format::Figures;
 
 // The numbers of an answer, in the order of the answer area.
 pub struct Told {
@@ -18,20 +19,27 @@ pub struct Told {
     pub whole: u32,
 }
 
+// What is told of a call that is accepted: its figures as they are, the cost in 256ths of a disk byte.
+fn tell_accepted(x: Figures) -> Told
+    ensures { λ r. ⌜ r ≡ toldOf (Answer.Accepted x) ⌝ }
+{
+    Told {
+        number: 0,
+        place: 0,
+        cost: x.cost,
+        entries: x.entries,
+        stored: x.stored,
+        looks: x.looks,
+        whole: x.whole,
+    }
+}
+
 // What is told of an answer.
 fn tell(a: Answer) -> Told
     ensures { λ r. ⌜ r ≡ toldOf a ⌝ }
 {
     match a {
-        Answer::Accepted(x) => Told {
-            number: 0,
-            place: 0,
-            cost: x.cost,
-            entries: x.entries,
-            stored: x.stored,
-            looks: x.looks,
-            whole: x.whole,
-        },
+        Answer::Accepted(x) => tell_accepted(x),
         Answer::Refused(r) => {
             let fault = r.fault;
             Told {

@@ -1,6 +1,6 @@
 -- Document 02, S-1: rates that are all multiplied by one number; and a factor of whole disk bytes, in 256ths, beside document 01.
 --
--- In order: the law of scaling; document 01's rates; what partition and pass answer and write at F = 256 × G, by their contracts.
+-- In order: the law of scaling; document 01's rates; what measure, partition and pass answer and write at F = 256 × G, by their contracts.
 -- Assumes nothing.
 use Prim.Native.Nat.{ℕ, _*_, _<_}
 use mathlib.Core.Path.{_≡_}
@@ -10,10 +10,12 @@ use Rattle.format.specs.declared.Ruling.{Ruling}
 use Rattle.format.specs.declared.Figures.{Figures}
 use Rattle.format.specs.declared.Answer.{Answer}
 use Rattle.format.specs.declared.Answer.the-variants.{Accepted, Refused}
+use Rattle.format.specs.Refusal.{answer}
 use Rattle.format.specs.Record.{recordsOf}
 use Rattle.price.specs.declared.Price.{Price}
 use Rattle.price.specs.declared.Rates.{Rates}
 use Rattle.price.specs.Price.{ratesAt, scaled, cost}
+use Rattle.measure.specs.Measure.{measureRuling, measures, measured}
 use Rattle.choice.specs.Choice.{Bit, least}
 use Rattle.admit.specs.Admit.{partitionRuling}
 use Rattle.writer.specs.Decide.{decidedAnswer, decidedAreas}
@@ -61,17 +63,14 @@ pub record AsWhole (q : Ruling) (e g : ℕ) (list v : List ℕ) (c : List Bit) (
   pub answered : x .answer ≡ answerTimes 256 (decidedAnswer q (wholeRates e g) list c looks)
   pub areas-after : x .after ≡ decidedAreas q list v c (x .before)
 
--- a call of partition at F = 256 × g, and one of pass
-abbrev pub PartitionAsWhole : ℕ → ℕ → List ℕ → List ℕ → List ℕ → Call → Type 0
-PartitionAsWhole e g list v st x =
-    Partitioned (wholePrice e g) list v st (x .before) (x .answer) (x .after)
-    → AsWhole (partitionRuling (wholePrice e g) list v st (x .before)) e g list v (least (wholeRates e g) (recordsOf list)) 0 x
-
-abbrev pub PassAsWhole : ℕ → ℕ → List ℕ → List ℕ → List ℕ → Call → Type 0
-PassAsWhole e g list v st x =
-    PassMade (wholePrice e g) list v st (x .before) (x .answer) (x .after)
-    → AsWhole (partitionRuling (wholePrice e g) list v st (x .before)) e g list v (passChoice (wholeRates e g) (recordsOf list)) (passLooks (wholeRates e g) (recordsOf list)) x
+-- at F = 256 × g: what measure answers; and what any call x answers and writes that meets partition's contract, or pass's
+pub record AtWhole (e g : ℕ) (list v st : List ℕ) (x : Call) : Type 0 where
+  pub measure-whole : measured (wholePrice e g) list ≡ answerTimes 256 (answer (measureRuling (wholePrice e g) list) (measures (wholeRates e g) (recordsOf list)))
+  pub partition-whole : Partitioned (wholePrice e g) list v st (x .before) (x .answer) (x .after)
+      → AsWhole (partitionRuling (wholePrice e g) list v st (x .before)) e g list v (least (wholeRates e g) (recordsOf list)) 0 x
+  pub pass-whole : PassMade (wholePrice e g) list v st (x .before) (x .answer) (x .after)
+      → AsWhole (partitionRuling (wholePrice e g) list v st (x .before)) e g list v (passChoice (wholeRates e g) (recordsOf list)) (passLooks (wholeRates e g) (recordsOf list)) x
 
 -- for every E, factor, list, version and store, and for all answers and areas
 abbrev pub WholeFactor : Type 0
-WholeFactor = (e g : ℕ) (list v st : List ℕ) (x : Call) → PartitionAsWhole e g list v st x × PassAsWhole e g list v st x
+WholeFactor = (e g : ℕ) (list v st : List ℕ) (x : Call) → AtWhole e g list v st x
