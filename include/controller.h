@@ -213,7 +213,7 @@ uint32_t partition(uint32_t e, uint32_t f,
  * Does: moves a cursor over the list, and merges a short match into new neighbours, or two short matches into a new record, by the five
  *   rules of docs/SPECIFICATION.md ("Pass"); one look at a record at a time, at most 2n - 1 of them for n records.
  * Areas, writes, refuses, on refusal, returns: as for partition. answer also gives the looks. The list costs no less than partition's
- *   and no more than the one handed in. It is no faster: on 4,096 short records it takes some four times as long as partition. */
+ *   and no more than the one handed in. It is no faster: on 4,096 short records it takes some five times as long as partition. */
 uint32_t pass(uint32_t e, uint32_t f,
               const uint8_t *list, size_t list_len,
               const uint8_t *version, size_t version_len,
