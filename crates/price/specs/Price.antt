@@ -27,7 +27,7 @@ entryPrice k = k .f * k .e
 abbrev pub ratesAt : ℕ → ℕ → Rates
 ratesAt p b = record { fresh = record { 0 = p }; kept = record { 0 = p }; byte = record { 0 = b } }
 
--- P, P and 256: a disk byte has 256 256ths
+-- P, P and 256, since a cost is in 256ths of a disk byte
 abbrev pub ratesOf : Price → Rates
 ratesOf k = ratesAt (entryPrice k) 256
 
