@@ -10,7 +10,7 @@
  *
  *   differential [seed]
  *
- * The same seed gives the same inputs. Exit 0 where nothing differs and every number of document 01 and factor of note was reached, else 1.
+ * The same seed gives the same inputs. Exit 0 where nothing differs and each number of document 01 and each factor below was reached, else 1.
  */
 #include <inttypes.h>
 #include <signal.h>
