@@ -6,7 +6,7 @@
  * with libcontroller.a.
  *
  * SURROUNDINGS. The library asks for memcpy and memset, and for nothing else. It has no data of its own. Stack needed, measured by
- * tests/stack.c: measure, rebuild, check and partition under 1 KiB each, pass 65 KiB (its record of kinds and sizes goes by value
+ * tests/stack.c: measure, rebuild, check and partition under 1 KiB each, pass 61 KiB (its record of kinds and sizes goes by value
  * through each look).
  *
  * NAMES. The five calls have plain names. Where they collide with others, give them a prefix: objcopy --redefine-sym measure=box_measure,
@@ -31,8 +31,9 @@
  *
  * ON REFUSAL the answer area holds number and place, and no other area changes.
  *
- * THE PRICE is E, how many index bytes an entry takes, and F, how many 256ths of a disk byte one index byte is worth: F = 256 is one disk
- * byte, 384 is one and a half. An entry costs P = F * E, a stored byte 256, and every cost is in this unit.
+ * THE PRICE is EN and EM, how many index bytes a new entry and a match take, and F, how many 256ths of a disk byte one index byte is worth:
+ * F = 256 is one disk byte, 384 is one and a half. A new entry costs F * EN, a match F * EM, a stored byte 256, and every cost is in this
+ * unit. A new entry needs no address, so EN may be less than EM; every order of the two is allowed.
  *
  * THE LIST: 0 to 4,096 records of 12 bytes, in the order of the version. Two new records never stand next to each other.
  *
@@ -45,7 +46,7 @@
  * THE NUMBERS, by their cause:
  *
  *   whoever sets up the box
- *    1  E or F outside its range (E 1 to 255, F 1 to 65,535)
+ *    1  EN, EM or F outside its range (EN and EM 1 to 255, F 1 to 65,535)
  *   the calling program
  *    2  the version is over 16,777,216 bytes, or the store over 268,435,456
  *    9  an area too short
@@ -75,9 +76,9 @@ extern "C" {
 #define ANSWER_BYTES 32
 
 /* The version of this library: it grows when a call, an answer or a number changes. */
-#define CONTROLLER_VERSION 2
+#define CONTROLLER_VERSION 3
 
-/* E is 1 to E_MOST, F is 1 to F_MOST. */
+/* EN and EM are 1 to E_MOST, F is 1 to F_MOST. */
 #define E_MOST 255
 #define F_MOST 65535
 
@@ -116,7 +117,7 @@ static inline const char *number_text(uint32_t number)
 {
     switch (number) {
     case ACCEPTED: return "accepted";
-    case BAD_PRICE: return "E or F is outside its range";
+    case BAD_PRICE: return "EN, EM or F is outside its range";
     case TOO_LONG: return "the version or the store is too long";
     case BAD_LIST_LENGTH: return "the list's length is no multiple of 12, or over 49,152";
     case MALFORMED_RECORD: return "a record is malformed";
@@ -147,14 +148,14 @@ static inline uint32_t answer_whole(const uint8_t *answer) { return answer_word(
 
 /* measure - what a list costs.
  *
- * Does: adds up a list: its records, the sizes of its new records, all its sizes, and its cost at the price of E and F:
- *   F * E * entries + 256 * stored bytes.
+ * Does: adds up a list: its records, the sizes of its new records, all its sizes, and its cost at the price of EN, EM and F:
+ *   F * (EN * new entries + EM * matches) + 256 * stored bytes.
  * Areas: list.
  * Writes: answer (cost, entries, stored bytes, whole length).
  * Refuses, in this order: 1 at 0; 3 at 0; then record by record 4, 5, 6 at the record.
  * On refusal: answer holds number and place.
  * Returns: the number. */
-uint32_t measure(uint32_t e, uint32_t f,
+uint32_t measure(uint32_t en, uint32_t em, uint32_t f,
                  const uint8_t *list, size_t list_len,
                  uint8_t *answer, size_t answer_len);
 
@@ -188,9 +189,9 @@ uint32_t check(const uint8_t *list, size_t list_len,
 
 /* partition - the list that costs least.
  *
- * Does: of all ways to keep each match or to store its bytes again, takes the one whose list costs least at the price of E and F, new
- *   records that come to stand next to each other fused; of several that cost the same, the one that keeps at the first record where
- *   they differ.
+ * Does: of all ways to keep each match or to store its bytes again, takes the one whose list costs least at the price of EN, EM and F,
+ *   new records that come to stand next to each other fused; of several that cost the same, the one that keeps at the first record
+ *   where they differ.
  * Areas: version, the bytes to be kept; store, the old data; list, which describes version against store; choice, 1 byte for each
  *   record; list_area, as long as list; block_area, as long as version.
  * Writes: the first bytes of choice, one for each record (0 kept as match, 1 new); the first bytes of list_area, the new list, 12 for
@@ -199,7 +200,7 @@ uint32_t check(const uint8_t *list, size_t list_len,
  * Refuses, in this order: 1 at 0; 2 at 0; 3 at 0; 9 at 0; record by record 4, 5, 6, 7, 8 at the record; 6 at the number of records.
  * On refusal: answer holds number and place; choice, list_area and block_area are unchanged.
  * Returns: the number. */
-uint32_t partition(uint32_t e, uint32_t f,
+uint32_t partition(uint32_t en, uint32_t em, uint32_t f,
                    const uint8_t *list, size_t list_len,
                    const uint8_t *version, size_t version_len,
                    const uint8_t *store, size_t store_len,
@@ -211,10 +212,11 @@ uint32_t partition(uint32_t e, uint32_t f,
 /* pass - the published linear method, look by look.
  *
  * Does: moves a cursor over the list, and merges a short match into new neighbours, or two short matches into a new record, by the five
- *   rules of docs/SPECIFICATION.md ("Pass"); one look at a record at a time, at most 2n - 1 of them for n records.
+ *   rules of docs/SPECIFICATION.md ("Pass"); one look at a record at a time, at most 2n - 1 of them for n records. It never stores a match
+ *   that stands alone, which may be worth it where EN is less than EM.
  * Areas, writes, refuses, on refusal, returns: as for partition. answer also gives the looks. The list costs no less than partition's
  *   and no more than the one handed in. It is no faster: on 4,096 short records it takes some five times as long as partition. */
-uint32_t pass(uint32_t e, uint32_t f,
+uint32_t pass(uint32_t en, uint32_t em, uint32_t f,
               const uint8_t *list, size_t list_len,
               const uint8_t *version, size_t version_len,
               const uint8_t *store, size_t store_len,

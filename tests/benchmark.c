@@ -18,8 +18,8 @@
 #include "controller.h"
 #include "reference.h"
 
-/* E and F, in 256ths: an entry costs 64 disk bytes. */
-enum { E = 16, F = 4 * 256 };
+/* The price, F in 256ths: a new entry costs 48 disk bytes, a match 64. */
+enum { EN = 12, EM = 16, F = 4 * 256 };
 
 /* ---- The inputs ---- */
 
@@ -140,7 +140,7 @@ static uint32_t make_call(int call, enum side side)
     const size_t last = in.list_len / RECORD_BYTES - 1;
     switch (call) {
     case MEASURE:
-        return (ref ? ref_measure : measure)(E, F, in.list, in.list_len, to, ANSWER_BYTES);
+        return (ref ? ref_measure : measure)(EN, EM, F, in.list, in.list_len, to, ANSWER_BYTES);
     case CHECK:
         return (ref ? ref_check : check)(in.list, in.list_len, in.block, in.block_len, in.store, VERSION_MOST, (uint32_t)last,
                                          to, ANSWER_BYTES);
@@ -148,11 +148,11 @@ static uint32_t make_call(int call, enum side side)
         return (ref ? ref_rebuild : rebuild)(in.list, in.list_len, in.block, in.block_len, in.store, VERSION_MOST, in.area,
                                              VERSION_MOST, to, ANSWER_BYTES);
     case PARTITION:
-        return (ref ? ref_partition : partition)(E, F, in.list, in.list_len, in.version, in.version_len, in.store, VERSION_MOST,
+        return (ref ? ref_partition : partition)(EN, EM, F, in.list, in.list_len, in.version, in.version_len, in.store, VERSION_MOST,
                                                  in.choice, RECORDS_MOST, in.list_area, sizeof in.list_area, in.area,
                                                  VERSION_MOST, to, ANSWER_BYTES);
     default:
-        return (ref ? ref_pass : pass)(E, F, in.list, in.list_len, in.version, in.version_len, in.store, VERSION_MOST,
+        return (ref ? ref_pass : pass)(EN, EM, F, in.list, in.list_len, in.version, in.version_len, in.store, VERSION_MOST,
                                        in.choice, RECORDS_MOST, in.list_area, sizeof in.list_area, in.area, VERSION_MOST,
                                        to, ANSWER_BYTES);
     }
@@ -287,9 +287,9 @@ int main(int count, char **arguments)
         return 1;
     }
     set_up();
-    printf("Library and reference in turn, medians of 3 to %d samples; every buffer was written beforehand. E %d, F %d.\n"
+    printf("Library and reference in turn, medians of 3 to %d samples; every buffer was written beforehand. EN %d, EM %d, F %d.\n"
            "Records in turns are new, match, new, match, of one size; small ones have 1 to 128 bytes, new or match by chance.\n\n",
-           SAMPLES, E, F);
+           SAMPLES, EN, EM, F);
     print_all_times();
     print_all_growth();
     return 0;

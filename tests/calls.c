@@ -11,7 +11,7 @@
 
 #include "controller.h"
 
-#define CASES 225
+#define CASES 249
 #define FILL 0xA5
 #define AREA 256
 
@@ -137,67 +137,74 @@ static int not_made(uint32_t returned)
 
 /* ---- Measure ---- */
 
-static uint32_t measured(uint32_t e, uint32_t f, const uint8_t *bytes, size_t length)
+static uint32_t measured(uint32_t en, uint32_t em, uint32_t f, const uint8_t *bytes, size_t length)
 {
     fill_areas();
-    return measure(e, f, bytes, length, answer, sizeof answer);
+    return measure(en, em, f, bytes, length, answer, sizeof answer);
 }
 
-/* Cost is P for each record and 256 for each new byte: 2,560 * 4 + 256 * 12; 16,711,425 * 2 + 256 * 3; 2,560 * 2 + 256 * 16,777,215;
- * 384 * 2 + 256 * 3; 1 + 2^32. */
+/* Cost is F * EN for each new record, F * EM for each match and 256 for each new byte: 2,560 * 4 + 256 * 12; 16,711,425 * 2 + 256 * 3;
+ * 2,560 * 2 + 256 * 16,777,215; 384 * 2 + 256 * 3; 1 + 2^32. Where EN and EM differ: 512 * 1 + 512 * 7 * 2 + 256 * 4, and
+ * 512 * 7 + 512 * 1 * 2 + 256 * 4; 65,535 * 255 * 2 + 65,535 + 256 * 16, and 65,535 * 2 + 65,535 * 255 + 256 * 16. */
 static const struct {
     const char *what;
-    uint32_t e, f;
+    uint32_t en, em, f;
     const char *list;
     struct values want;
 } measures[] = {
-    { "no records", 10, 256, "", { 0 } },
-    { "both kinds", 10, 256, "N5 M19@0 M4@7 N7", { .cost = DISK_BYTE * 52, .entries = 4, .stored = 12, .whole = 35 } },
-    { "E 255, F 65535", 255, 65535, "M8@1 N3", { .cost = 33423618, .entries = 2, .stored = 3, .whole = 11 } },
-    { "E 1, F 1", 1, 1, "M8@1", { .cost = 1, .entries = 1, .whole = 8 } },
-    { "sizes of 16777216", 10, 256, "N16777215 M1@0", { .cost = UINT64_C(4294972160), .entries = 2, .stored = 16777215, .whole = 16777216 } },
-    { "a fraction of a disk byte", 3, 128, "M8@1 N3", { .cost = 1536, .entries = 2, .stored = 3, .whole = 11 } },
-    { "one new record of 16777216", 1, 1, "N16777216", { .cost = UINT64_C(4294967297), .entries = 1, .stored = 16777216, .whole = 16777216 } },
-    { "E 0", 0, 256, "N5", { .number = 1 } },
-    { "E 256", 256, 256, "N5", { .number = 1 } },
-    { "F 0", 10, 0, "N5", { .number = 1 } },
-    { "F 65536", 10, 65536, "N5", { .number = 1 } },
-    { "kind 2", 10, 256, "N5 X5@0", { .number = 4, .place = 1 } },
-    { "byte 1 of a new record", 10, 256, "N5!1", { .number = 4 } },
-    { "byte 2 of a new record", 10, 256, "N5!2", { .number = 4 } },
-    { "byte 3 of a new record", 10, 256, "N5!3", { .number = 4 } },
-    { "byte 1 of a match", 10, 256, "N5 M5@0!1", { .number = 4, .place = 1 } },
-    { "byte 2 of a match", 10, 256, "N5 M5@0!2", { .number = 4, .place = 1 } },
-    { "byte 3 of a match", 10, 256, "N5 M5@0!3", { .number = 4, .place = 1 } },
-    { "a new record of size 0", 10, 256, "N0", { .number = 4 } },
-    { "a match of size 0", 10, 256, "N5 M6@0 M0@0", { .number = 4, .place = 2 } },
-    { "new with address 1", 10, 256, "N5@1", { .number = 4 } },
-    { "new with address 256", 10, 256, "M1@0 N5@256", { .number = 4, .place = 1 } },
-    { "new with address 65536", 10, 256, "N1 M1@0 N5@65536", { .number = 4, .place = 2 } },
-    { "new with address 16777216", 10, 256, "N5@16777216", { .number = 4 } },
-    { "new after new", 10, 256, "M5@0 N5 N5", { .number = 5, .place = 2 } },
-    { "sizes of 16777217", 10, 256, "N16777215 M1@0 M1@0", { .number = 6, .place = 2 } },
-    { "one record of 16777217", 10, 256, "N16777217", { .number = 6 } },
-    { "sizes that pass 2^32", 10, 256, "N1 M4294967295@0", { .number = 6, .place = 1 } },
-    { "1 before 4", 0, 256, "N0", { .number = 1 } },
-    { "4 before 5", 10, 256, "N5 N0", { .number = 4, .place = 1 } },
-    { "5 before 6", 10, 256, "N5 N16777216", { .number = 5, .place = 1 } },
-    { "4 before 6", 10, 256, "N5 M16777216@0!1", { .number = 4, .place = 1 } },
-    { "6 at 1 before 4 at 2", 10, 256, "N5 M16777216@0 N0", { .number = 6, .place = 1 } },
-    { "5 at 1 before 4 at 2", 10, 256, "N5 N5 N0", { .number = 5, .place = 1 } },
+    { "no records", 10, 10, 256, "", { 0 } },
+    { "both kinds", 10, 10, 256, "N5 M19@0 M4@7 N7", { .cost = DISK_BYTE * 52, .entries = 4, .stored = 12, .whole = 35 } },
+    { "EN and EM 255, F 65535", 255, 255, 65535, "M8@1 N3", { .cost = 33423618, .entries = 2, .stored = 3, .whole = 11 } },
+    { "EN and EM 1, F 1", 1, 1, 1, "M8@1", { .cost = 1, .entries = 1, .whole = 8 } },
+    { "sizes of 16777216", 10, 10, 256, "N16777215 M1@0", { .cost = UINT64_C(4294972160), .entries = 2, .stored = 16777215, .whole = 16777216 } },
+    { "a fraction of a disk byte", 3, 3, 128, "M8@1 N3", { .cost = 1536, .entries = 2, .stored = 3, .whole = 11 } },
+    { "one new record of 16777216", 1, 1, 1, "N16777216", { .cost = UINT64_C(4294967297), .entries = 1, .stored = 16777216, .whole = 16777216 } },
+    { "EN 1, EM 7, one new and two matches", 1, 7, 512, "M8@0 N4 M8@0", { .cost = 8704, .entries = 3, .stored = 4, .whole = 20 } },
+    { "EN 7, EM 1, one new and two matches", 7, 1, 512, "M8@0 N4 M8@0", { .cost = 5632, .entries = 3, .stored = 4, .whole = 20 } },
+    { "EN 255, EM 1, F 65535", 255, 1, 65535, "N9 M8@0 N7", { .cost = 33492481, .entries = 3, .stored = 16, .whole = 24 } },
+    { "EN 1, EM 255, F 65535", 1, 255, 65535, "N9 M8@0 N7", { .cost = 16846591, .entries = 3, .stored = 16, .whole = 24 } },
+    { "EN 0", 0, 10, 256, "N5", { .number = 1 } },
+    { "EN 256", 256, 10, 256, "N5", { .number = 1 } },
+    { "EM 0", 10, 0, 256, "N5", { .number = 1 } },
+    { "EM 256", 10, 256, 256, "N5", { .number = 1 } },
+    { "F 0", 10, 10, 0, "N5", { .number = 1 } },
+    { "F 65536", 10, 10, 65536, "N5", { .number = 1 } },
+    { "kind 2", 10, 10, 256, "N5 X5@0", { .number = 4, .place = 1 } },
+    { "byte 1 of a new record", 10, 10, 256, "N5!1", { .number = 4 } },
+    { "byte 2 of a new record", 10, 10, 256, "N5!2", { .number = 4 } },
+    { "byte 3 of a new record", 10, 10, 256, "N5!3", { .number = 4 } },
+    { "byte 1 of a match", 10, 10, 256, "N5 M5@0!1", { .number = 4, .place = 1 } },
+    { "byte 2 of a match", 10, 10, 256, "N5 M5@0!2", { .number = 4, .place = 1 } },
+    { "byte 3 of a match", 10, 10, 256, "N5 M5@0!3", { .number = 4, .place = 1 } },
+    { "a new record of size 0", 10, 10, 256, "N0", { .number = 4 } },
+    { "a match of size 0", 10, 10, 256, "N5 M6@0 M0@0", { .number = 4, .place = 2 } },
+    { "new with address 1", 10, 10, 256, "N5@1", { .number = 4 } },
+    { "new with address 256", 10, 10, 256, "M1@0 N5@256", { .number = 4, .place = 1 } },
+    { "new with address 65536", 10, 10, 256, "N1 M1@0 N5@65536", { .number = 4, .place = 2 } },
+    { "new with address 16777216", 10, 10, 256, "N5@16777216", { .number = 4 } },
+    { "new after new", 10, 10, 256, "M5@0 N5 N5", { .number = 5, .place = 2 } },
+    { "sizes of 16777217", 10, 10, 256, "N16777215 M1@0 M1@0", { .number = 6, .place = 2 } },
+    { "one record of 16777217", 10, 10, 256, "N16777217", { .number = 6 } },
+    { "sizes that pass 2^32", 10, 10, 256, "N1 M4294967295@0", { .number = 6, .place = 1 } },
+    { "1 before 4", 0, 0, 256, "N0", { .number = 1 } },
+    { "4 before 5", 10, 10, 256, "N5 N0", { .number = 4, .place = 1 } },
+    { "5 before 6", 10, 10, 256, "N5 N16777216", { .number = 5, .place = 1 } },
+    { "4 before 6", 10, 10, 256, "N5 M16777216@0!1", { .number = 4, .place = 1 } },
+    { "6 at 1 before 4 at 2", 10, 10, 256, "N5 M16777216@0 N0", { .number = 6, .place = 1 } },
+    { "5 at 1 before 4 at 2", 10, 10, 256, "N5 N5 N0", { .number = 5, .place = 1 } },
 };
 
 static void test_measure(void)
 {
     for (size_t i = 0; i < sizeof measures / sizeof *measures; i++) {
         size_t n = list_of(measures[i].list, list);
-        expect("measure", measures[i].what, answered(measured(measures[i].e, measures[i].f, list, n), measures[i].want) && untouched());
+        expect("measure", measures[i].what, answered(measured(measures[i].en, measures[i].em, measures[i].f, list, n), measures[i].want) && untouched());
     }
-    expect("measure", "1 before 3", refused(measured(0, 256, list, 11), 1, 0));
-    expect("measure", "1 byte", refused(measured(10, 256, list, 1), 3, 0));
-    expect("measure", "13 bytes", refused(measured(10, 256, list, 13), 3, 0));
+    expect("measure", "1 before 3", refused(measured(0, 10, 256, list, 11), 1, 0));
+    expect("measure", "1 byte", refused(measured(10, 10, 256, list, 1), 3, 0));
+    expect("measure", "13 bytes", refused(measured(10, 10, 256, list, 13), 3, 0));
     fill_areas();
-    expect("measure", "an answer area of 31 bytes", not_made(measure(0, 0, list, 1, answer, ANSWER_BYTES - 1)));
+    expect("measure", "an answer area of 31 bytes", not_made(measure(0, 0, 0, list, 1, answer, ANSWER_BYTES - 1)));
 }
 
 /* ---- Check and rebuild, over the store of the letters A to T ---- */
@@ -315,8 +322,8 @@ static void test_rebuild(void)
 
 /* ---- Partition and pass: accepted ---- */
 
-typedef uint32_t call(uint32_t e, uint32_t f, const uint8_t *list, size_t list_len, const uint8_t *version, size_t version_len,
-                      const uint8_t *store, size_t store_len, uint8_t *choice, size_t choice_len, uint8_t *list_area, size_t list_area_len,
+typedef uint32_t call(uint32_t en, uint32_t em, uint32_t f, const uint8_t *list, size_t list_len, const uint8_t *version,
+                      size_t version_len, const uint8_t *store, size_t store_len, uint8_t *choice, size_t choice_len, uint8_t *list_area, size_t list_area_len,
                       uint8_t *block_area, size_t block_area_len, uint8_t *answer, size_t answer_len);
 
 /* The letters A to Z and a to n. In the sheets new bytes are digits, and no match goes on in the store where the one before it ended. */
@@ -326,16 +333,17 @@ typedef uint32_t call(uint32_t e, uint32_t f, const uint8_t *list, size_t list_l
 
 /* The price, and how many bytes of the areas for choice, list and stored block are lent. */
 struct terms {
-    uint32_t e, f;
+    uint32_t en, em, f;
     size_t choice, list, block;
 };
-#define AT(e, f) { e, f, AREA, AREA, AREA }
-#define IN(choice, list, block) { 10, 256, choice, list, block }
+#define PRICED(en, em, f) { en, em, f, AREA, AREA, AREA }
+#define AT(e, f) PRICED(e, e, f)
+#define IN(choice, list, block) { 10, 10, 256, choice, list, block }
 
 static uint32_t called(call *made, struct terms t, size_t n, const char *version, const char *store)
 {
     fill_areas();
-    return made(t.e, t.f, list, n, (const uint8_t *)version, strlen(version), (const uint8_t *)store, strlen(store), choice, t.choice, list_area,
+    return made(t.en, t.em, t.f, list, n, (const uint8_t *)version, strlen(version), (const uint8_t *)store, strlen(store), choice, t.choice, list_area,
                 t.list, block_area, t.block, answer, sizeof answer);
 }
 
@@ -356,7 +364,7 @@ static int gives(call *made, const struct accepted *a, const char *store)
         && holds(block_area, a->stored, strlen(a->stored)) && holds(area, "", 0);
 }
 
-/* The sheets, at F = 256 and an entry of 10 disk bytes, where partition and pass take the same choice; the looks are the pass's. */
+/* The sheets, at F = 256 and every entry of 10 disk bytes, where partition and pass take the same choice; the looks are the pass's. */
 static const struct accepted sheets[] = {
     { "sheet A", AT(10, 256), "", "", "", "", "", { 0 } },
     { "sheet B", AT(10, 256), "M1@0", "A", "0", "M1@0", "", { .cost = 256 * 10, .entries = 1, .looks = 1 } },
@@ -370,7 +378,7 @@ static const struct accepted sheets[] = {
     { "sheet H", AT(10, 256), "M4@8 M4@4 M4@0", "IJKLEFGHABCD", "111", "N12", "IJKLEFGHABCD", { .cost = 256 * 22, .entries = 1, .stored = 12, .looks = 4 } },
     { "sheet J", AT(10, 256), "M10@8 M4@4 M4@0", "IJKLMNOPQREFGHABCD", "011", "M10@8 N8", "EFGHABCD",
       { .cost = 256 * 28, .entries = 2, .stored = 8, .looks = 4 } },
-    { "sheet C at E 2, F 1280", AT(2, 1280), SHEET_C, VERSION_C, "111", "N29", VERSION_C, { .cost = 256 * 39, .entries = 1, .stored = 29, .looks = 2 } },
+    { "sheet C at EN and EM 2, F 1280", AT(2, 1280), SHEET_C, VERSION_C, "111", "N29", VERSION_C, { .cost = 256 * 39, .entries = 1, .stored = 29, .looks = 2 } },
     { "sheet C at the greatest price", AT(255, 65535), SHEET_C, VERSION_C, "111", "N29", VERSION_C,
       { .cost = 16718849, .entries = 1, .stored = 29, .looks = 2 } },
     { "sheet C in areas just long enough", IN(3, 36, 29), SHEET_C, VERSION_C, "111", "N29", VERSION_C,
@@ -385,14 +393,8 @@ static const struct accepted sheets[] = {
     { "a tie", AT(8, 256), "M4@8 N8 M8@0", "IJKL01234567ABCDEFGH", "110", "N12 M8@0", "IJKL01234567", { .cost = 256 * 28, .entries = 2, .stored = 12, .looks = 4 } },
 };
 
-/* Sheet I, which three matches stored as one would make cheaper: the pass merges only pairs, and keeps all. */
-static const struct accepted sheet_i = { "sheet I", AT(10, 256), "M6@12 M6@6 M6@0", "MNOPQRGHIJKLABCDEF", "111", "N18", "MNOPQRGHIJKLABCDEF",
-    { .cost = 256 * 28, .entries = 1, .stored = 18 } };
-static const struct accepted sheet_i_passed = { "sheet I", AT(10, 256), "M6@12 M6@6 M6@0", "MNOPQRGHIJKLABCDEF", "000", "M6@12 M6@6 M6@0", "",
-    { .cost = 256 * 30, .entries = 3, .looks = 3 } };
-
 /* Factors with a fraction, over a store of STORE three times; again partition and pass take the same choice. A match of 1 byte costs 256 to
- * store: at F = 256 that is what its entry costs, a tie, and a 256th more or less decides. The last three are one list at E 10: of its
+ * store: at F = 256 that is what its entry costs, a tie, and a 256th more or less decides. The last three are one list at EN and EM 10: of its
  * matches of 12 and 17 bytes an entry of 10 disk bytes is worth neither, of 15 the first, of 20 both. */
 #define STORE_3 STORE STORE STORE
 #define LIST_5 "N1 M12@0 M60@50 M17@20 N1"
@@ -409,6 +411,40 @@ static const struct accepted fractions[] = {
       { .cost = 23296, .entries = 3, .stored = 31, .looks = 6 } },
 };
 
+/* A new entry cheaper or dearer than a match, where both take the same choice. In disk bytes: kept, sheet C costs 2 * 10 + 1 + 10; at EM 9 it
+ * costs 2 * 10 + 9 + 10 kept and 10 + 29 stored, a tie. Sheet I's matches cost 1 + 18 stored, and the pass merges the first two, 12 + 1 being
+ * below 2 * 10. A lone match of 4 costs 6 + 4 stored and 10 kept, a tie. */
+#define LONE "M20@20 M4@8 M20@0"
+#define VERSION_LONE "UVWXYZabcdefghijklmnIJKLABCDEFGHIJKLMNOPQRST"
+static const struct accepted two_prices[] = {
+    { "sheet C at EN 10, EM 1", PRICED(10, 1, 256), SHEET_C, VERSION_C, "101", SHEET_C, "0123456789",
+      { .cost = 256 * 31, .entries = 3, .stored = 10, .looks = 3 } },
+    { "sheet C at EN 10, EM 9, a tie", PRICED(10, 9, 256), SHEET_C, VERSION_C, "101", SHEET_C, "0123456789",
+      { .cost = 256 * 39, .entries = 3, .stored = 10, .looks = 3 } },
+    { "sheet I at EN 1, EM 10", PRICED(1, 10, 256), "M6@12 M6@6 M6@0", "MNOPQRGHIJKLABCDEF", "111", "N18", "MNOPQRGHIJKLABCDEF",
+      { .cost = 256 * 19, .entries = 1, .stored = 18, .looks = 4 } },
+    { "a lone match at EN 6, EM 10, a tie", PRICED(6, 10, 256), LONE, VERSION_LONE, "000", LONE, "", { .cost = 256 * 30, .entries = 3, .looks = 3 } },
+};
+
+/* Where the pass takes another choice than partition. Of sheet I's matches, and at EN 12 of sheet H's, no two are worth merging, but all three
+ * are; a lone match is worth storing where 1 + 4 is below 10, and only partition does it. */
+static const struct apart {
+    struct accepted least, passed;
+} apart[] = {
+    { { "sheet I", AT(10, 256), "M6@12 M6@6 M6@0", "MNOPQRGHIJKLABCDEF", "111", "N18", "MNOPQRGHIJKLABCDEF",
+        { .cost = 256 * 28, .entries = 1, .stored = 18 } },
+      { "sheet I", AT(10, 256), "M6@12 M6@6 M6@0", "MNOPQRGHIJKLABCDEF", "000", "M6@12 M6@6 M6@0", "", { .cost = 256 * 30, .entries = 3, .looks = 3 } } },
+    { { "sheet H at EN 12, EM 10", PRICED(12, 10, 256), "M4@8 M4@4 M4@0", "IJKLEFGHABCD", "111", "N12", "IJKLEFGHABCD",
+        { .cost = 256 * 24, .entries = 1, .stored = 12 } },
+      { "sheet H at EN 12, EM 10", PRICED(12, 10, 256), "M4@8 M4@4 M4@0", "IJKLEFGHABCD", "000", "M4@8 M4@4 M4@0", "",
+        { .cost = 256 * 30, .entries = 3, .looks = 3 } } },
+    { { "a lone match at EN 1, EM 10", PRICED(1, 10, 256), LONE, VERSION_LONE, "010", "M20@20 N4 M20@0", "IJKL",
+        { .cost = 256 * 25, .entries = 3, .stored = 4 } },
+      { "a lone match at EN 1, EM 10", PRICED(1, 10, 256), LONE, VERSION_LONE, "000", LONE, "", { .cost = 256 * 30, .entries = 3, .looks = 3 } } },
+    { { "one match at EN 1, EM 10", PRICED(1, 10, 256), "M4@0", "ABCD", "1", "N4", "ABCD", { .cost = 256 * 5, .entries = 1, .stored = 4 } },
+      { "one match at EN 1, EM 10", PRICED(1, 10, 256), "M4@0", "ABCD", "0", "M4@0", "", { .cost = 256 * 10, .entries = 1, .looks = 1 } } },
+};
+
 /* Pass and partition, of which partition gives no looks. */
 static void give_both(struct accepted a, const char *store)
 {
@@ -423,8 +459,12 @@ static void test_accepted(void)
         give_both(sheets[i], STORE);
     for (size_t i = 0; i < sizeof fractions / sizeof *fractions; i++)
         give_both(fractions[i], STORE_3);
-    expect("partition", sheet_i.what, gives(partition, &sheet_i, STORE));
-    expect("pass", sheet_i_passed.what, gives(pass, &sheet_i_passed, STORE));
+    for (size_t i = 0; i < sizeof two_prices / sizeof *two_prices; i++)
+        give_both(two_prices[i], STORE);
+    for (size_t i = 0; i < sizeof apart / sizeof *apart; i++) {
+        expect("partition", apart[i].least.what, gives(partition, &apart[i].least, STORE));
+        expect("pass", apart[i].passed.what, gives(pass, &apart[i].passed, STORE));
+    }
 }
 
 /* ---- Partition and pass: refused, both with the same number and place ---- */
@@ -435,8 +475,10 @@ static const struct {
     const char *list, *version, *store;
     uint32_t number, place;
 } refusals[] = {
-    { "E 0", AT(0, 256), SHEET_C, VERSION_C, STORE, 1, 0 },
-    { "E 256", AT(256, 256), SHEET_C, VERSION_C, STORE, 1, 0 },
+    { "EN 0", PRICED(0, 10, 256), SHEET_C, VERSION_C, STORE, 1, 0 },
+    { "EN 256", PRICED(256, 10, 256), SHEET_C, VERSION_C, STORE, 1, 0 },
+    { "EM 0", PRICED(10, 0, 256), SHEET_C, VERSION_C, STORE, 1, 0 },
+    { "EM 256", PRICED(10, 256, 256), SHEET_C, VERSION_C, STORE, 1, 0 },
     { "F 0", AT(10, 0), SHEET_C, VERSION_C, STORE, 1, 0 },
     { "F 65536", AT(10, 65536), SHEET_C, VERSION_C, STORE, 1, 0 },
     { "a choice area one byte short", IN(2, AREA, AREA), SHEET_C, VERSION_C, STORE, 9, 0 },
@@ -460,7 +502,7 @@ static const struct {
     { "a match whose first byte differs", AT(10, 256), SHEET_C, VERSION_C, "-BCDEFGHIJKLMNOPQRS", 8, 1 },
     { "a match whose last byte differs", AT(10, 256), SHEET_C, VERSION_C, "ABCDEFGHIJKLMNOPQR-", 8, 1 },
     { "a second match that differs", AT(10, 256), "N5 M9@0 M10@10 N5", VERSION_C, STORE, 8, 2 },
-    { "1 before 9", { 0, 256, 2, AREA, AREA }, SHEET_C, VERSION_C, STORE, 1, 0 },
+    { "1 before 9", { 0, 10, 256, 2, AREA, AREA }, SHEET_C, VERSION_C, STORE, 1, 0 },
     { "9 before 4", IN(2, AREA, AREA), "X5 M19@0 N5", VERSION_C, STORE, 9, 0 },
     { "9 before the short end", IN(2, AREA, AREA), "N5 M1@0 N1", VERSION_C, STORE, 9, 0 },
     { "4 before 5", AT(10, 256), "N5 N0 N5", VERSION_C, STORE, 4, 1 },
@@ -484,7 +526,7 @@ static void test_refused(call *made, const char *name)
     expect(name, "1 before 3", refused(called(made, no_factor, 11, "", STORE), 1, 0));
     expect(name, "3 before 9", refused(called(made, short_choice, 35, VERSION_C, STORE), 3, 0));
     fill_areas();
-    expect(name, "an answer area of 31 bytes", not_made(made(10, 256, list, 36, (const uint8_t *)VERSION_C, 29, (const uint8_t *)STORE, 40, choice, AREA,
+    expect(name, "an answer area of 31 bytes", not_made(made(10, 10, 256, list, 36, (const uint8_t *)VERSION_C, 29, (const uint8_t *)STORE, 40, choice, AREA,
         list_area, AREA, block_area, AREA, answer, ANSWER_BYTES - 1)));
 }
 
@@ -506,40 +548,40 @@ static void test_greatest_lists(void)
     size_t length = (size_t)RECORDS_MOST * RECORD_BYTES;
     uint8_t *most = memory(length + RECORD_BYTES), *out = memory(length), *bits = memory(RECORDS_MOST), *zeros = memory(length + RECORD_BYTES);
     uint8_t *bytes = memory((size_t)VERSION_MOST + 1), *stored = memory(VERSION_MOST);
-    expect("measure", "49,152 zero bytes, which pass check 3", refused(measured(10, 256, zeros, length), 4, 0));
-    expect("measure", "49,164 bytes", refused(measured(10, 256, zeros, length + RECORD_BYTES), 3, 0));
-    expect("measure", "49,151 bytes", refused(measured(10, 256, zeros, length - 1), 3, 0));
+    expect("measure", "49,152 zero bytes, which pass check 3", refused(measured(10, 10, 256, zeros, length), 4, 0));
+    expect("measure", "49,164 bytes", refused(measured(10, 10, 256, zeros, length + RECORD_BYTES), 3, 0));
+    expect("measure", "49,151 bytes", refused(measured(10, 10, 256, zeros, length - 1), 3, 0));
     for (size_t i = 0; i < RECORDS_MOST; i++)
         put_record(most, i, KIND_MATCH, VERSION_MOST / RECORDS_MOST, (uint32_t)(3 * i));
-    expect("measure", "4,096 records", answered(measured(10, 256, most, length), (struct values){ .cost = 256 * 40960, .entries = 4096, .whole = VERSION_MOST }));
+    expect("measure", "4,096 records", answered(measured(10, 10, 256, most, length), (struct values){ .cost = 256 * 40960, .entries = 4096, .whole = VERSION_MOST }));
     fill_areas();
-    expect("partition", "4,096 records and 16,777,216 bytes", answered(partition(1, 1, most, length, bytes, VERSION_MOST, bytes, VERSION_MOST, bits,
+    expect("partition", "4,096 records and 16,777,216 bytes", answered(partition(1, 1, 1, most, length, bytes, VERSION_MOST, bytes, VERSION_MOST, bits,
         RECORDS_MOST, out, length, stored, VERSION_MOST, answer, sizeof answer), (struct values){ .cost = 4096, .entries = 4096 })
         && memcmp(out, most, length) == 0);
     fill_areas();
-    expect("partition", "at the greatest price all is stored", answered(partition(E_MOST, F_MOST, most, length, bytes, VERSION_MOST, bytes, VERSION_MOST,
+    expect("partition", "at the greatest price all is stored", answered(partition(E_MOST, E_MOST, F_MOST, most, length, bytes, VERSION_MOST, bytes, VERSION_MOST,
         bits, RECORDS_MOST, out, length, stored, VERSION_MOST, answer, sizeof answer),
         (struct values){ .cost = 16711425 + UINT64_C(4294967296), .entries = 1, .stored = VERSION_MOST }) && memcmp(stored, bytes, VERSION_MOST) == 0);
     fill_areas();
-    expect("pass", "4,096 records", answered(pass(1, 1, most, length, bytes, VERSION_MOST, bytes, VERSION_MOST, bits, RECORDS_MOST, out, length,
+    expect("pass", "4,096 records", answered(pass(1, 1, 1, most, length, bytes, VERSION_MOST, bytes, VERSION_MOST, bits, RECORDS_MOST, out, length,
         stored, VERSION_MOST, answer, sizeof answer), (struct values){ .cost = 4096, .entries = 4096, .looks = 4096 }));
     /* Two matches of 2^32 256ths together, which a sum in 32 bits would take for 0: no price is worth them. */
     for (size_t i = 0; i < 2; i++)
         put_record(most, i, KIND_MATCH, VERSION_MOST / 2, (uint32_t)(VERSION_MOST / 2 * (1 - i)));
     fill_areas();
-    expect("pass", "two matches of 8,388,608 at the greatest price", answered(pass(E_MOST, F_MOST, most, 24, bytes, VERSION_MOST, bytes, VERSION_MOST,
+    expect("pass", "two matches of 8,388,608 at the greatest price", answered(pass(E_MOST, E_MOST, F_MOST, most, 24, bytes, VERSION_MOST, bytes, VERSION_MOST,
         bits, RECORDS_MOST, out, length, stored, VERSION_MOST, answer, sizeof answer), (struct values){ .cost = 33422850, .entries = 2, .looks = 2 }));
     fill_areas();
-    expect("partition", "two matches of 8,388,608 at the greatest price", answered(partition(E_MOST, F_MOST, most, 24, bytes, VERSION_MOST, bytes,
+    expect("partition", "two matches of 8,388,608 at the greatest price", answered(partition(E_MOST, E_MOST, F_MOST, most, 24, bytes, VERSION_MOST, bytes,
         VERSION_MOST, bits, RECORDS_MOST, out, length, stored, VERSION_MOST, answer, sizeof answer), (struct values){ .cost = 33422850, .entries = 2 }));
     fill_areas();
-    expect("partition", "a version of 16,777,217 bytes", refused(partition(1, 1, most, length, bytes, VERSION_MOST + 1, bytes, VERSION_MOST, bits,
+    expect("partition", "a version of 16,777,217 bytes", refused(partition(1, 1, 1, most, length, bytes, VERSION_MOST + 1, bytes, VERSION_MOST, bits,
         RECORDS_MOST, out, length, stored, VERSION_MOST, answer, sizeof answer), 2, 0));
     fill_areas();
-    expect("partition", "1 before 2", refused(partition(0, 1, most, length, bytes, VERSION_MOST + 1, bytes, VERSION_MOST, bits, RECORDS_MOST, out, length,
+    expect("partition", "1 before 2", refused(partition(0, 1, 1, most, length, bytes, VERSION_MOST + 1, bytes, VERSION_MOST, bits, RECORDS_MOST, out, length,
         stored, VERSION_MOST, answer, sizeof answer), 1, 0));
     fill_areas();
-    expect("partition", "2 before 3", refused(partition(1, 1, most, length - 1, bytes, VERSION_MOST + 1, bytes, VERSION_MOST, bits, RECORDS_MOST, out,
+    expect("partition", "2 before 3", refused(partition(1, 1, 1, most, length - 1, bytes, VERSION_MOST + 1, bytes, VERSION_MOST, bits, RECORDS_MOST, out,
         length, stored, VERSION_MOST, answer, sizeof answer), 2, 0));
     free(most), free(out), free(bits), free(zeros), free(bytes), free(stored);
 }
@@ -555,7 +597,7 @@ static void test_greatest_store(void)
     fill_areas();
     expect("check", "2 before 3", refused(check(list, 35, block, 10, huge, (size_t)STORE_MOST + 1, 0, answer, sizeof answer), 2, 0));
     fill_areas();
-    expect("pass", "a store of 268,435,457 bytes", refused(pass(10, 256, list, 36, (const uint8_t *)VERSION_C, 29, huge, (size_t)STORE_MOST + 1, choice,
+    expect("pass", "a store of 268,435,457 bytes", refused(pass(10, 10, 256, list, 36, (const uint8_t *)VERSION_C, 29, huge, (size_t)STORE_MOST + 1, choice,
         AREA, list_area, AREA, block_area, AREA, answer, sizeof answer), 2, 0));
     free(huge);
 }

@@ -3,14 +3,16 @@
  * For each call: the number returned, the answer area, and every byte of every area lent for writing, with the bytes around it,
  * must be the reference's; what is lent for reading must stay as it was, and on refusal every area but the answer. Without the
  * reference: the written list is the one its choice makes, it measures as the answer says and rebuilds the version, it comes
- * back from a second partition as it is, short lists are held against all their choices, and the pass is held to its bounds.
+ * back from a second partition as it is, short lists are held against all their choices, a match that stands alone is stored exactly
+ * where that costs less, and the pass is held to its bounds.
  *
  * In order: the calls; chance; the areas; fields; reports; one comparison; the laws; one case; valid inputs; damage; the cases;
  * the table. Not here: NULL for an empty area, which controller.h does not allow.
  *
  *   differential [seed]
  *
- * The same seed gives the same inputs. Exit 0 where nothing differs and each number of document 01 and each factor below was reached, else 1.
+ * The same seed gives the same inputs. Exit 0 where nothing differs and each number of document 01 and each kind of price below was reached,
+ * else 1.
  */
 #include <inttypes.h>
 #include <signal.h>
@@ -58,7 +60,7 @@ static int one_in(uint32_t n)
 
 /* What a call is lent: the inputs, and the lengths of the areas to write. */
 struct input {
-    uint32_t e, f, k;
+    uint32_t en, em, f, k;
     uint8_t *list, *version, *store, *block;
     size_t list_len, version_len, store_len, block_len;
     size_t choice_len, list_area_len, block_area_len, area_len, answer_len;
@@ -217,7 +219,7 @@ static void dump(const char *name, const uint8_t *bytes, size_t len)
 
 static void dump_input(const struct input *in)
 {
-    printf("E %" PRIu32 " F %" PRIu32 " k %" PRIu32 ", %zu records\n", in->e, in->f, in->k, records(in));
+    printf("EN %" PRIu32 " EM %" PRIu32 " F %" PRIu32 " k %" PRIu32 ", %zu records\n", in->en, in->em, in->f, in->k, records(in));
     printf("areas: choice %zu, list %zu, stored block %zu, version %zu, answer %zu\n", in->choice_len,
            in->list_area_len, in->block_area_len, in->area_len, in->answer_len);
     dump("list", in->list, in->list_len);
@@ -296,7 +298,7 @@ static uint32_t run(int call, int side, const struct input *in)
     uint8_t *answer = area(ANSWER, side);
     switch (call) {
     case MEASURE:
-        return (library ? measure : ref_measure)(in->e, in->f, in->list, in->list_len, answer, in->answer_len);
+        return (library ? measure : ref_measure)(in->en, in->em, in->f, in->list, in->list_len, answer, in->answer_len);
     case REBUILD:
         return (library ? rebuild : ref_rebuild)(in->list, in->list_len, in->block, in->block_len,
                                                  in->store, in->store_len, area(WHOLE, side), in->area_len,
@@ -305,12 +307,12 @@ static uint32_t run(int call, int side, const struct input *in)
         return (library ? check : ref_check)(in->list, in->list_len, in->block, in->block_len,
                                              in->store, in->store_len, in->k, answer, in->answer_len);
     case PARTITION:
-        return (library ? partition : ref_partition)(in->e, in->f, in->list, in->list_len, in->version, in->version_len,
+        return (library ? partition : ref_partition)(in->en, in->em, in->f, in->list, in->list_len, in->version, in->version_len,
                                                      in->store, in->store_len, area(CHOICE, side), in->choice_len,
                                                      area(LIST, side), in->list_area_len,
                                                      area(BLOCK, side), in->block_area_len, answer, in->answer_len);
     default:
-        return (library ? pass : ref_pass)(in->e, in->f, in->list, in->list_len, in->version, in->version_len,
+        return (library ? pass : ref_pass)(in->en, in->em, in->f, in->list, in->list_len, in->version, in->version_len,
                                            in->store, in->store_len, area(CHOICE, side), in->choice_len,
                                            area(LIST, side), in->list_area_len,
                                            area(BLOCK, side), in->block_area_len, answer, in->answer_len);
@@ -378,16 +380,33 @@ static int compare(int call, const struct input *in)
 
 /* ---- The laws: what an accepted partition or pass must have written, without the reference ---- */
 
-static uint64_t dearer_passes, ties;
+static uint64_t dearer_passes, ties, lone_stored, lone_kept;
 
 /* The factors at which a partition must have been accepted: the edges, and around one disk byte. */
 static struct { uint32_t f; uint64_t accepted; } factors[] = { { 1, 0 }, { 255, 0 }, { 256, 0 }, { 257, 0 }, { 65535, 0 } };
 enum { FACTORS = sizeof factors / sizeof factors[0] };
 
-static void tally_factor(const struct input *in)
+/* The prices at which one must have been accepted: a new entry cheaper than a match, as dear, dearer. */
+enum { CHEAPER, AS_DEAR, DEARER, ORDERS };
+static const char *const order_name[ORDERS] = { "EN < EM", "EN = EM", "EN > EM" };
+static uint64_t orders[ORDERS];
+
+static void tally_price(const struct input *in)
 {
     for (int i = 0; i < FACTORS; i++)
         factors[i].accepted += in->f == factors[i].f;
+    orders[in->en < in->em ? CHEAPER : in->en == in->em ? AS_DEAR : DEARER]++;
+}
+
+/* What an entry costs, by its kind. */
+static uint64_t new_cost(const struct input *in)
+{
+    return (uint64_t)in->f * in->en;
+}
+
+static uint64_t match_cost(const struct input *in)
+{
+    return (uint64_t)in->f * in->em;
 }
 
 /* The list and stored block that document 01 makes of a choice, into the areas of the laws; how many records. */
@@ -438,7 +457,7 @@ static void law_of_measure(int call, const struct input *in)
 {
     uint8_t answer[ANSWER_BYTES];
     const struct given *g = &given[call];
-    const uint32_t number = measure(in->e, in->f, area(LIST, LIBRARY), RECORD_BYTES * g->entries, answer, sizeof answer);
+    const uint32_t number = measure(in->en, in->em, in->f, area(LIST, LIBRARY), RECORD_BYTES * g->entries, answer, sizeof answer);
     const struct given m = read_answer(answer);
     if (number != ACCEPTED || m.entries != g->entries || m.stored != g->stored || m.cost != g->cost ||
         m.whole != in->version_len)
@@ -465,8 +484,8 @@ static void law_of_second_partition(const struct input *in)
     const struct given *g = &given[PARTITION];
     uint8_t *list = area(LIST, LIBRARY);
     const size_t list_len = RECORD_BYTES * g->entries;
-    const uint32_t number = partition(in->e, in->f, list, list_len, in->version, in->version_len, in->store, in->store_len,
-                                      law_choice, g->entries, law_list, list_len, law_block, in->version_len,
+    const uint32_t number = partition(in->en, in->em, in->f, list, list_len, in->version, in->version_len, in->store,
+                                      in->store_len, law_choice, g->entries, law_list, list_len, law_block, in->version_len,
                                       answer, sizeof answer);
     const struct given again = read_answer(answer);
     if (number != ACCEPTED)
@@ -490,7 +509,8 @@ static uint64_t cost_of_bits(const struct input *in, uint32_t c)
         const uint32_t bit = c >> (n - 1 - i) & 1;
         if (!bit && record(in->list, i)[0] == 0)
             return UINT64_MAX;
-        cost += (uint64_t)in->e * in->f * !(bit && last) + (bit ? UINT64_C(256) * size_at(in, i) : 0);
+        const uint64_t new_entry = last ? 0 : new_cost(in);
+        cost += bit ? new_entry + UINT64_C(256) * size_at(in, i) : match_cost(in);
         last = bit;
     }
     return cost;
@@ -515,6 +535,22 @@ static void law_of_least(const struct input *in)
     for (size_t i = 0; i < n; i++)
         if (choice[i] != (first >> (n - 1 - i) & 1))
             differ(PARTITION, "the choice is not the least of all choices", in);
+}
+
+/* A match that joins no new record, as none stands beside it, is stored exactly where its entry and bytes then cost less. */
+static void law_of_lone_matches(const struct input *in)
+{
+    const size_t n = records(in);
+    const uint8_t *choice = area(CHOICE, LIBRARY);
+    for (size_t i = 0; i < n; i++) {
+        if (record(in->list, i)[0] == 0 || (i > 0 && choice[i - 1]) || (i + 1 < n && choice[i + 1]))
+            continue;
+        const int cheaper = new_cost(in) + UINT64_C(256) * size_at(in, i) < match_cost(in);
+        if (choice[i] != cheaper)
+            differ(PARTITION, cheaper ? "a lone match is kept that should be stored" : "a lone match is stored that should be kept", in);
+        lone_stored += choice[i] == 1;
+        lone_kept += choice[i] == 0;
+    }
 }
 
 /* The pass costs no less than partition's list and no more than the list handed in, and makes at most 2n - 1 looks. */
@@ -542,11 +578,12 @@ static void try_input(const struct input *in)
     compare(CHECK, in);
     const int accepted = compare(PARTITION, in);
     if (accepted) {
-        tally_factor(in);
+        tally_price(in);
         law_of_choice(PARTITION, in);
         law_of_measure(PARTITION, in);
         law_of_rebuild(PARTITION, in);
         law_of_second_partition(in);
+        law_of_lone_matches(in);
         if (records(in) <= BRUTE_RECORDS)
             law_of_least(in);
     }
@@ -635,11 +672,13 @@ static void set_areas(struct input *in)
     in->k = records(in) == 0 ? 0 : below(records(in));
 }
 
-/* A size around P and 2P, in disk bytes, and their parts, cut to 1 and most. */
-static uint32_t draw_size(uint64_t price, uint32_t most)
+/* A size around those at which a merge or a lone match is worth it, in disk bytes, and their parts, cut to 1 and most. */
+static uint32_t draw_size(const struct input *in, uint32_t most)
 {
-    const uint64_t one = price / 256, two = 2 * price / 256;
-    const uint64_t near[8] = { one, one, two, two, one / 2, one / 3, 1, below(two + 3) };
+    const uint64_t match = match_cost(in), fresh = new_cost(in);
+    const uint64_t one = match / 256, two = (match + fresh) / 256;
+    const uint64_t pair = fresh < 2 * match ? (2 * match - fresh) / 256 : 1, lone = fresh < match ? (match - fresh) / 256 : 1;
+    const uint64_t near[8] = { one, two, two, lone, pair / 2, pair / 3, 1, below(two + 3) };
     const int64_t size = (int64_t)near[below(8)] + (int64_t)below(3) - 1;
     if (size < 1)
         return 1;
@@ -649,10 +688,9 @@ static uint32_t draw_size(uint64_t price, uint32_t most)
 /* Appends records of this shape. */
 static void append_records(struct input *in, const struct shape *shape)
 {
-    const uint64_t price = (uint64_t)in->e * in->f;
     int last_new = 0;
     for (size_t i = 0; i < shape->records; i++) {
-        const uint32_t size = draw_size(price, shape->size_most);
+        const uint32_t size = draw_size(in, shape->size_most);
         const int fits = size <= in->store_len;
         if (!last_new && (!fits || below(8) < shape->new_of_8)) {
             append_new(in, size, shape->letters);
@@ -666,12 +704,20 @@ static void append_records(struct input *in, const struct shape *shape)
     }
 }
 
-/* A price: mostly small, so that few bytes reach P and 2P; F is whole disk bytes, any number of 256ths up to 3 of them, or an edge. */
+/* The index bytes of an entry. */
+static uint32_t draw_entry(int big)
+{
+    return big ? 255 : one_in(3) ? 1 : 1 + below(12);
+}
+
+/* A price: mostly small, so that few bytes cost as much as an entry; a third have EN = EM; F is whole disk bytes, any number of 256ths up to
+ * 3 of them, or an edge. */
 static void draw_price(struct input *in)
 {
     const int big = one_in(16);
     const uint32_t small[8] = { 255, 256, 257, 256 * (1 + below(3)), 256 * (1 + below(3)), 1 + below(768), 1 + below(768), 1 };
-    in->e = big ? 255 : one_in(3) ? 1 : 1 + below(12);
+    in->em = draw_entry(big);
+    in->en = one_in(3) ? in->em : draw_entry(big && one_in(2));
     in->f = big || one_in(16) ? (one_in(2) ? 65535 : 1 + below(65535)) : small[below(8)];
 }
 
@@ -692,10 +738,11 @@ static uint8_t *some_record(struct input *in)
     return record(in->list, below(records(in)));
 }
 
+/* One of EN and EM. */
 static void damage_price_e(struct input *in)
 {
     const uint32_t wrong[] = { 0, 256, 65536, UINT32_MAX, 255, 1 };
-    in->e = wrong[below(6)];
+    *(one_in(2) ? &in->en : &in->em) = wrong[below(6)];
 }
 
 static void damage_price_f(struct input *in)
@@ -877,13 +924,14 @@ static void damage_some(struct input *in)
 
 /* ---- The cases ---- */
 
-/* Goes on from a list to all lists that begin with it and have up to so many records more, with sizes up to 2P and a disk byte. */
+/* Goes on from a list to all lists that begin with it and have up to so many records more, with sizes up to a match and a new
+ * entry's cost and a disk byte. */
 static void every_list(const struct input *in, size_t more, int last_new)
 {
     struct input next = *in;
     set_areas(&next);
     try_input(&next);
-    for (uint32_t size = 1; more > 0 && size <= 2 * in->e * in->f / 256 + 1; size++) {
+    for (uint32_t size = 1; more > 0 && size <= (in->en + in->em) * in->f / 256 + 1; size++) {
         next = *in;
         append_match(&next, size, below(in->store_len - size + 1));
         every_list(&next, more - 1, 0);
@@ -896,17 +944,19 @@ static void every_list(const struct input *in, size_t more, int last_new)
 }
 
 /* Every short list where an entry costs 1, 2 and 3 disk bytes, and where it costs a 256th of one, a 256th less or more than one, one and a
- * half, and two and a half. */
+ * half, and two and a half; then where a new entry is cheaper or dearer than a match. */
 static void short_lists(void)
 {
-    const struct { uint32_t e, f; size_t most; } prices[] = {
-        { 1, 256, 6 }, { 2, 256, 5 }, { 3, 256, 4 }, { 1, 1, 6 }, { 1, 255, 6 }, { 1, 257, 6 }, { 1, 384, 5 }, { 5, 128, 4 },
+    const struct { uint32_t en, em, f; size_t most; } prices[] = {
+        { 1, 1, 256, 6 }, { 2, 2, 256, 5 }, { 3, 3, 256, 4 }, { 1, 1, 1, 6 }, { 1, 1, 255, 6 }, { 1, 1, 257, 6 }, { 1, 1, 384, 5 }, { 5, 5, 128, 4 },
+        { 1, 2, 256, 5 }, { 1, 4, 256, 4 }, { 1, 3, 129, 5 }, { 2, 1, 256, 5 }, { 4, 1, 256, 4 }, { 3, 2, 127, 5 },
     };
     case_kind = "short lists";
     for (size_t i = 0; i < sizeof prices / sizeof prices[0]; i++) {
         struct input in = empty_input(12);
         fill_letters(in.store, in.store_len, 2);
-        in.e = prices[i].e;
+        in.en = prices[i].en;
+        in.em = prices[i].em;
         in.f = prices[i].f;
         every_list(&in, prices[i].most, 0);
     }
@@ -982,29 +1032,41 @@ static void store_lengths(void)
     }
 }
 
-/* Lists of two or three long records; a size of 0 ends the list. For E 128 an entry costs 32,767 and a half disk bytes, for E 255 a 256th
- * more than 65,279; sizes that add up to 2^24 cost 2^32. */
+/* Lists of one to three long records; a size of 0 ends the list. For EN = EM = 128 an entry costs 32,767 and a half disk bytes, for 255 a
+ * 256th more than 65,279; sizes that add up to 2^24 cost 2^32. For EN 1 and EM 255 a lone match is worth storing up to 65,023 bytes, one
+ * between new records up to 65,534, two matches up to 130,302; for EN 255 and EM 1 no two matches are. */
 static const struct long_list {
-    uint32_t e, f;
+    uint32_t en, em, f;
     struct { int is_new; uint32_t size; } records[3];
 } long_lists[] = {
-    { 128, 65535, { { 1, 5 }, { 0, 65534 }, { 1, 5 } } },
-    { 128, 65535, { { 1, 5 }, { 0, 65535 }, { 1, 5 } } },
-    { 128, 65535, { { 0, 32767 }, { 1, 1 }, { 0, 32768 } } },
-    { 128, 65535, { { 1, 1 }, { 0, 32768 }, { 0, 0 } } },
-    { 128, 65535, { { 0, 16384 }, { 0, 16383 }, { 0, 32768 } } },
-    { 255, 65535, { { 0, 32639 }, { 0, 32640 }, { 0, 0 } } },
-    { 255, 65535, { { 0, 32640 }, { 0, 32640 }, { 0, 0 } } },
-    { 255, 65535, { { 1, 1 }, { 0, 65279 }, { 0, 0 } } },
-    { 255, 65535, { { 1, 1 }, { 0, 65280 }, { 0, 0 } } },
-    { 255, 65535, { { 0, 8388608 }, { 0, 8388608 }, { 0, 0 } } },
-    { 255, 65535, { { 1, 1 }, { 0, 16777214 }, { 1, 1 } } },
-    { 255, 65535, { { 0, 16777216 }, { 0, 0 }, { 0, 0 } } },
-    { 255, 65535, { { 1, 16777216 }, { 0, 0 }, { 0, 0 } } },
-    { 1, 1, { { 0, 8388608 }, { 0, 8388608 }, { 0, 0 } } },
-    { 1, 1, { { 0, 16777216 }, { 0, 0 }, { 0, 0 } } },
-    { 1, 1, { { 0, 16777216 }, { 1, 1 }, { 0, 0 } } },
-    { 1, 1, { { 1, 16777217 }, { 0, 0 }, { 0, 0 } } },
+    { 128, 128, 65535, { { 1, 5 }, { 0, 65534 }, { 1, 5 } } },
+    { 128, 128, 65535, { { 1, 5 }, { 0, 65535 }, { 1, 5 } } },
+    { 128, 128, 65535, { { 0, 32767 }, { 1, 1 }, { 0, 32768 } } },
+    { 128, 128, 65535, { { 1, 1 }, { 0, 32768 }, { 0, 0 } } },
+    { 128, 128, 65535, { { 0, 16384 }, { 0, 16383 }, { 0, 32768 } } },
+    { 255, 255, 65535, { { 0, 32639 }, { 0, 32640 }, { 0, 0 } } },
+    { 255, 255, 65535, { { 0, 32640 }, { 0, 32640 }, { 0, 0 } } },
+    { 255, 255, 65535, { { 1, 1 }, { 0, 65279 }, { 0, 0 } } },
+    { 255, 255, 65535, { { 1, 1 }, { 0, 65280 }, { 0, 0 } } },
+    { 255, 255, 65535, { { 0, 8388608 }, { 0, 8388608 }, { 0, 0 } } },
+    { 255, 255, 65535, { { 1, 1 }, { 0, 16777214 }, { 1, 1 } } },
+    { 255, 255, 65535, { { 0, 16777216 }, { 0, 0 }, { 0, 0 } } },
+    { 255, 255, 65535, { { 1, 16777216 }, { 0, 0 }, { 0, 0 } } },
+    { 1, 1, 1, { { 0, 8388608 }, { 0, 8388608 }, { 0, 0 } } },
+    { 1, 1, 1, { { 0, 16777216 }, { 0, 0 }, { 0, 0 } } },
+    { 1, 1, 1, { { 0, 16777216 }, { 1, 1 }, { 0, 0 } } },
+    { 1, 1, 1, { { 1, 16777217 }, { 0, 0 }, { 0, 0 } } },
+    { 1, 255, 65535, { { 0, 1000000 }, { 0, 65023 }, { 0, 1000000 } } },
+    { 1, 255, 65535, { { 0, 1000000 }, { 0, 65024 }, { 0, 1000000 } } },
+    { 1, 255, 65535, { { 1, 5 }, { 0, 65534 }, { 1, 5 } } },
+    { 1, 255, 65535, { { 1, 5 }, { 0, 65535 }, { 1, 5 } } },
+    { 1, 255, 65535, { { 0, 65151 }, { 0, 65151 }, { 0, 1000000 } } },
+    { 1, 255, 65535, { { 0, 65152 }, { 0, 65151 }, { 0, 1000000 } } },
+    { 1, 255, 65535, { { 0, 8388608 }, { 0, 8388608 }, { 0, 0 } } },
+    { 255, 1, 65535, { { 1, 5 }, { 0, 65534 }, { 1, 5 } } },
+    { 255, 1, 65535, { { 1, 5 }, { 0, 65535 }, { 1, 5 } } },
+    { 255, 1, 65535, { { 0, 1 }, { 0, 1 }, { 0, 0 } } },
+    { 255, 1, 65535, { { 0, 8388608 }, { 0, 8388608 }, { 0, 0 } } },
 };
 
 static void long_cases(void)
@@ -1013,7 +1075,8 @@ static void long_cases(void)
     fill(store_bytes, VERSION_MOST);
     for (size_t i = 0; i < sizeof long_lists / sizeof long_lists[0]; i++) {
         struct input in = empty_input(VERSION_MOST);
-        in.e = long_lists[i].e;
+        in.en = long_lists[i].en;
+        in.em = long_lists[i].em;
         in.f = long_lists[i].f;
         for (int j = 0; j < 3 && long_lists[i].records[j].size > 0; j++) {
             const uint32_t size = long_lists[i].records[j].size;
@@ -1028,12 +1091,13 @@ static void long_cases(void)
 }
 
 /* 4,096 records of 4,096 bytes, which is the longest version; then its last byte wrong, and a byte more. */
-static void longest_full_case(uint32_t e, uint32_t f)
+static void longest_full_case(uint32_t en, uint32_t em, uint32_t f)
 {
     case_kind = "longest and full";
     struct input in = empty_input(VERSION_MOST);
     fill(store_bytes, VERSION_MOST);
-    in.e = e;
+    in.en = en;
+    in.em = em;
     in.f = f;
     for (int i = 0; i < RECORDS_MOST; i++) {
         if (i % 4 == 0)
@@ -1079,13 +1143,24 @@ static void print_table(void)
     printf("partitions accepted");
     for (int i = 0; i < FACTORS; i++)
         printf("%s %" PRIu64 " at F %" PRIu32, i == 0 ? ":" : ",", factors[i].accepted, factors[i].f);
-    printf("\n");
+    for (int i = 0; i < ORDERS; i++)
+        printf("%s %" PRIu64 " at %s", i == 0 ? ";" : ",", orders[i], order_name[i]);
+    printf("; in them, matches with no new record beside them: %" PRIu64 " stored, %" PRIu64 " kept\n", lone_stored, lone_kept);
 }
 
-/* How many required columns and factors were never reached. */
+/* How many required columns and kinds of price were never reached. */
 static int missing(void)
 {
     int count = 0;
+    for (int i = 0; i < ORDERS; i++)
+        if (orders[i] == 0) {
+            printf("differential: no partition was accepted at %s\n", order_name[i]);
+            count++;
+        }
+    if (lone_stored == 0) {
+        printf("differential: no lone match was stored\n");
+        count++;
+    }
     for (int i = 0; i < FACTORS; i++)
         if (factors[i].accepted == 0) {
             printf("differential: no partition was accepted at F %" PRIu32 "\n", factors[i].f);
@@ -1120,9 +1195,11 @@ int main(int argc, char **argv)
     list_lengths();
     store_lengths();
     long_cases();
-    longest_full_case(32, 32768);
-    longest_full_case(32, 32769);
-    longest_full_case(16, 32768);
+    longest_full_case(32, 32, 32768);
+    longest_full_case(32, 32, 32769);
+    longest_full_case(16, 16, 32768);
+    longest_full_case(1, 255, 32768);
+    longest_full_case(255, 32, 32768);
     print_table();
     uint64_t calls = 0;
     for (int call = 0; call < CALLS; call++)

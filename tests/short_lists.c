@@ -1,10 +1,10 @@
 /* short_lists.c - partition and pass on every short list, against every choice of it and a second writing of the five rules.
  *
- * Written from document 01, and document 02's S-1, alone: nothing here is of the crates or of tests/reference. The lists have 0 to 6
- * records, new or match, of the sizes 1, 3, 4, 7 and 8; all of them are tried at each of four prices, an entry of 4 disk bytes, of a
- * little less and a little more, and of 3 and a half. Partition must give the choice that comes first among all; pass must give what
- * the rules leave, and keep its bounds: no dearer than the list handed in, no cheaper than the least choice, at most 2n - 1 looks.
- * Answers are compared field by field and areas to their last byte.
+ * Written from document 01, and document 02's S-1 and S-2, alone: nothing here is of the crates or of tests/reference. The lists have 0 to
+ * 6 records, new or match, of the sizes 1, 3, 4, 7 and 8; all of them are tried at each of eight prices: every entry at 4 disk bytes, at a
+ * little less and a little more, and at 3 and a half; new entries cheaper than matches, twice; and dearer, twice. Partition must give the
+ * choice that comes first among all; pass must give what the rules leave, and keep its bounds: no dearer than the list handed in, no cheaper
+ * than the least choice, at most 2n - 1 looks, and no match stored alone. Answers are compared field by field and areas to their last byte.
  *
  * In order: the price; lists; a choice; the least choice; the pass; what is due; one call; one list; all lists; all prices.
  * Exit 0 and a line with the counts for each price, each held to its number, else 1 and a line for each of the first lists that are wrong.
@@ -17,15 +17,20 @@
 
 /* ---- The price, in 256ths of a disk byte ---- */
 
-enum { E = 2 };
+/* Index bytes of a new entry and of a match, and 256ths of a disk byte for one of them: each round sets it. */
+static struct price {
+    uint32_t en, em, f;
+} price;
 
-/* F, which each round sets. */
-static uint32_t factor;
-
-/* What an entry costs: P. */
-static uint64_t entry_cost(void)
+/* What a new entry costs, and what a match costs. */
+static uint64_t new_cost(void)
 {
-    return (uint64_t)factor * E;
+    return (uint64_t)price.f * price.en;
+}
+
+static uint64_t match_cost(void)
+{
+    return (uint64_t)price.f * price.em;
 }
 
 /* What stored bytes cost, in the same unit. */
@@ -60,10 +65,13 @@ static uint64_t stored_bytes(const struct list *list)
     return sum;
 }
 
-/* F x E x entries + 256 x stored bytes. */
+/* F x (EN x new entries + EM x matches) + 256 x stored bytes. */
 static uint64_t cost(const struct list *list)
 {
-    return entry_cost() * list->n + bytes_cost(stored_bytes(list));
+    uint64_t index_bytes = 0;
+    for (size_t i = 0; i < list->n; i++)
+        index_bytes += list->at[i].kind == NEW ? price.en : price.em;
+    return price.f * index_bytes + bytes_cost(stored_bytes(list));
 }
 
 static int same_list(const struct list *a, const struct list *b)
@@ -237,23 +245,23 @@ static int is_match(const struct record *r)
 
 static int first_applies(const struct record *p)
 {
-    return is_match(p) && is_new(p - 1) && is_new(p + 1) && bytes_cost(p->size) < 2 * entry_cost();
+    return is_match(p) && is_new(p - 1) && is_new(p + 1) && bytes_cost(p->size) < match_cost() + new_cost();
 }
 
 static int second_applies(const struct record *p)
 {
-    return is_match(p) && is_new(p - 1) && bytes_cost(p->size) < entry_cost();
+    return is_match(p) && is_new(p - 1) && bytes_cost(p->size) < match_cost();
 }
 
 static int third_applies(const struct record *p)
 {
-    return is_match(p) && is_new(p + 1) && bytes_cost(p->size) < entry_cost();
+    return is_match(p) && is_new(p + 1) && bytes_cost(p->size) < match_cost();
 }
 
 static int fourth_applies(const struct record *p)
 {
     return is_match(p) && is_match(p + 1) && !is_new(p - 1) && !is_new(p + 2)
-        && bytes_cost((uint64_t)p->size + (p + 1)->size) < entry_cost();
+        && bytes_cost((uint64_t)p->size + (p + 1)->size) + new_cost() < 2 * match_cost();
 }
 
 /* Makes one new record of so many from a place on; those after it move up to it. */
@@ -339,6 +347,17 @@ static int leaves_a_choice(const struct list *list, const struct due *due)
     return is_choice(list, due->made.bits) && same_list(&made, &due->made.list);
 }
 
+/* How many matches a choice stores alone: no record beside them has 1. */
+static uint64_t stored_alone(const struct list *list, const uint8_t *bits)
+{
+    uint64_t alone = 0;
+    for (size_t i = 0; i < list->n; i++) {
+        const int beside = (i > 0 && bits[i - 1]) || (i + 1 < list->n && bits[i + 1]);
+        alone += list->at[i].kind == MATCH && bits[i] == 1 && !beside;
+    }
+    return alone;
+}
+
 /* The most looks at a list: 2n - 1, and none at none. */
 static uint64_t most_looks(const struct list *list)
 {
@@ -364,7 +383,7 @@ struct input {
     uint8_t version[LONGEST];
 };
 
-typedef uint32_t call_of(uint32_t, uint32_t, const uint8_t *, size_t, const uint8_t *, size_t, const uint8_t *, size_t,
+typedef uint32_t call_of(uint32_t, uint32_t, uint32_t, const uint8_t *, size_t, const uint8_t *, size_t, const uint8_t *, size_t,
                          uint8_t *, size_t, uint8_t *, size_t, uint8_t *, size_t, uint8_t *, size_t);
 
 static uint32_t make_call(call_of *call, const struct input *in, struct areas *got)
@@ -372,8 +391,8 @@ static uint32_t make_call(call_of *call, const struct input *in, struct areas *g
     uint8_t bytes[MOST * RECORD_BYTES];
     write_list(&in->list, bytes);
     memset(got, FILL, sizeof *got);
-    return call(E, factor, bytes, in->list.n * RECORD_BYTES, in->version, in->whole, store, STORE, got->choice, CHOICE_AREA,
-                got->list, LIST_AREA, got->block, BLOCK_AREA, got->answer, ANSWER_AREA);
+    return call(price.en, price.em, price.f, bytes, in->list.n * RECORD_BYTES, in->version, in->whole, store, STORE, got->choice,
+                CHOICE_AREA, got->list, LIST_AREA, got->block, BLOCK_AREA, got->answer, ANSWER_AREA);
 }
 
 static void put_number(uint8_t *to, size_t bytes, uint64_t n)
@@ -424,7 +443,7 @@ static const char *differs(call_of *call, const struct input *in, const struct d
 /* ---- One list ---- */
 
 static struct counts {
-    uint64_t lists, choices, ties, dearer, looks, wrong;
+    uint64_t lists, choices, ties, dearer, looks, alone, wrong;
 } count;
 
 enum { REPORTED = 10 };
@@ -433,7 +452,7 @@ static void report(const struct list *list, const char *call, const char *what)
 {
     if (++count.wrong > REPORTED)
         return;
-    printf("short_lists: F %" PRIu32 ":", factor);
+    printf("short_lists: EN %" PRIu32 ", EM %" PRIu32 ", F %" PRIu32 ":", price.en, price.em, price.f);
     for (size_t i = 0; i < list->n; i++)
         printf(" %c%" PRIu32, list->at[i].kind == NEW ? 'N' : 'M', list->at[i].size);
     printf(": %s: %s\n", call, what);
@@ -463,11 +482,13 @@ static void try_list(const struct input *in)
     expect(least.made.cost <= passed.made.cost, list, "the rules", "leave a list under the least cost");
     expect(passed.made.cost <= cost(list), list, "the rules", "leave a list dearer than the one handed in");
     expect(passed.looks <= most_looks(list), list, "the rules", "take more than 2n - 1 looks");
+    expect(stored_alone(list, passed.made.bits) == 0, list, "the rules", "store a match alone");
     count.lists++;
     count.choices += all.choices;
     count.ties += all.cheapest > 1;
     count.dearer += least.made.cost < passed.made.cost;
     count.looks += passed.looks;
+    count.alone += stored_alone(list, least.made.bits);
 }
 
 /* ---- All lists ---- */
@@ -523,31 +544,37 @@ static void try_all_from(const struct input *in)
  * choices there are 1 + 3 * 5 + 8 * 25 + 22 * 125 + 60 * 625 + 164 * 3,125 + 448 * 15,625. */
 enum { LISTS = 374461, CHOICES = 7552966 };
 
-/* A price, and what was counted once at it: lists of which two choices or more cost least, passes dearer than partition, looks. At 512 a
- * match of 4 or 8 bytes costs just as much as one entry or two, and at 448 one of 7 as much as two; at 511 and 513 no number of entries up
- * to 127 costs as much as any number of bytes, and no tie is left. At 511 the rules apply as at 512, so there are as many looks. */
+/* A price, and what was counted once at it: lists of which two choices or more cost least, passes dearer than partition, looks, and matches
+ * that the least choice stores alone, of which there are none where EN is not less than EM. At EN = EM = 2 and F = 512 a match of 4 or 8 bytes
+ * costs just as much as one entry or two, and at 448 one of 7 as much as two; at 511 and 513 no number of entries up to 127 costs as much as
+ * any number of bytes, and no tie is left. At 511 the rules apply as at 512, so there are as many looks. */
 static const struct round {
-    uint32_t factor;
-    uint64_t ties, dearer, looks;
+    struct price price;
+    uint64_t ties, dearer, looks, alone;
 } rounds[] = {
-    { 512, 156779, 56252, 2160733 },
-    { 511, 0, 56252, 2160733 },
-    { 513, 0, 16981, 2156692 },
-    { 448, 65920, 26437, 2214766 },
+    { { 2, 2, 512 }, 156779, 56252, 2160733, 0 },
+    { { 2, 2, 511 }, 0, 56252, 2160733, 0 },
+    { { 2, 2, 513 }, 0, 16981, 2156692, 0 },
+    { { 2, 2, 448 }, 65920, 26437, 2214766, 0 },
+    { { 1, 2, 512 }, 120423, 63753, 2229257, 44301 },
+    { { 1, 3, 448 }, 101152, 64283, 2297200, 69858 },
+    { { 5, 4, 256 }, 99967, 67018, 2106700, 0 },
+    { { 3, 1, 512 }, 60821, 22470, 2101510, 0 },
 };
 
 /* Tries all lists at a price; whether all went well. */
 static int try_round(const struct round *round)
 {
     const struct input none = { .whole = 0 };
-    factor = round->factor;
+    price = round->price;
     count = (struct counts){ 0 };
     try_all_from(&none);
-    printf("short_lists: E %d, F %" PRIu32 ": %" PRIu64 " lists of %d, %" PRIu64 " choices of %d, %" PRIu64 " lists with a tie of %" PRIu64
-           ", %" PRIu64 " passes dearer of %" PRIu64 ", %" PRIu64 " looks of %" PRIu64 ", %" PRIu64 " wrong\n", E, factor, count.lists, LISTS,
-           count.choices, CHOICES, count.ties, round->ties, count.dearer, round->dearer, count.looks, round->looks, count.wrong);
+    printf("short_lists: EN %" PRIu32 ", EM %" PRIu32 ", F %" PRIu32 ": %" PRIu64 " lists of %d, %" PRIu64 " choices of %d, %" PRIu64
+           " lists with a tie of %" PRIu64 ", %" PRIu64 " passes dearer of %" PRIu64 ", %" PRIu64 " looks of %" PRIu64 ", %" PRIu64
+           " matches stored alone of %" PRIu64 ", %" PRIu64 " wrong\n", price.en, price.em, price.f, count.lists, LISTS, count.choices, CHOICES,
+           count.ties, round->ties, count.dearer, round->dearer, count.looks, round->looks, count.alone, round->alone, count.wrong);
     return count.lists == LISTS && count.choices == CHOICES && count.ties == round->ties && count.dearer == round->dearer
-        && count.looks == round->looks && count.wrong == 0;
+        && count.looks == round->looks && count.alone == round->alone && count.wrong == 0;
 }
 
 int main(void)

@@ -4,7 +4,7 @@
  * a call may write a byte that looks like one. The few frames that lead to the call are counted with it, and `nothing` shows them
  * alone. The lists are full (4,096 records) and lead through the merges of the pass, a stored and a kept list, and refusals.
  *
- * One line for each call, in bytes. Exit 0 where none takes more than controller.h says: 1 KiB, and 68 KiB for pass; else 1.
+ * One line for each call, in bytes. Exit 0 where none takes more than controller.h says: 1 KiB, and 64 KiB for pass; else 1.
  */
 #define _XOPEN_SOURCE 700
 #include <stdint.h>
@@ -21,7 +21,7 @@ enum { KIB = 1024, STACK = 1024 * KIB, BYTES = 64 * RECORDS_MOST };
 
 /* One list, with its price and the lengths that go with it. */
 static struct {
-    uint32_t e, f;
+    uint32_t en, em, f;
     uint8_t list[RECORDS_MOST * RECORD_BYTES];
     size_t length, stored;
 } input;
@@ -33,20 +33,20 @@ static uint8_t choice[RECORDS_MOST], list_area[RECORDS_MOST * RECORD_BYTES], are
 /* A list: sizes from `size` on, which go round in `round`, and a new record at each multiple of `new_every`, if that is not 0. */
 struct shape {
     const char *name;
-    uint32_t e, f;
+    uint32_t en, em, f;
     unsigned size, round, new_every;
     uint32_t number;
 };
 
 /* At 10 disk bytes for an entry no merge, then merges 1 to 4; all stored at the greatest price; refused at the price, and at the last record. */
 static const struct shape shapes[] = {
-    { "matches kept", 10, 256, 20, 1, 0, ACCEPTED },
-    { "merge 1", 10, 256, 19, 1, 2, ACCEPTED },
-    { "merges 2 and 3", 10, 256, 5, 9, 7, ACCEPTED },
-    { "merge 4", 10, 256, 4, 1, 0, ACCEPTED },
-    { "all stored", 255, 65535, 9, 40, 3, ACCEPTED },
-    { "price refused", 0, 256, 9, 1, 3, BAD_PRICE },
-    { "last record refused", 10, 256, 9, 1, 3, MALFORMED_RECORD },
+    { "matches kept", 10, 10, 256, 20, 1, 0, ACCEPTED },
+    { "merge 1", 10, 10, 256, 19, 1, 2, ACCEPTED },
+    { "merges 2 and 3", 10, 10, 256, 5, 9, 7, ACCEPTED },
+    { "merge 4", 10, 10, 256, 4, 1, 0, ACCEPTED },
+    { "all stored", 255, 255, 65535, 9, 40, 3, ACCEPTED },
+    { "price refused", 0, 0, 256, 9, 1, 3, BAD_PRICE },
+    { "last record refused", 10, 10, 256, 9, 1, 3, MALFORMED_RECORD },
 };
 
 enum { SHAPES = sizeof shapes / sizeof *shapes };
@@ -54,7 +54,8 @@ enum { SHAPES = sizeof shapes / sizeof *shapes };
 static void set_input(const struct shape *shape)
 {
     memset(&input, 0, sizeof input);
-    input.e = shape->e;
+    input.en = shape->en;
+    input.em = shape->em;
     input.f = shape->f;
     for (unsigned i = 0; i < RECORDS_MOST; i++) {
         const unsigned size = shape->size + i % shape->round;
@@ -80,7 +81,7 @@ static void call_nothing(void)
 
 static void call_measure(void)
 {
-    number = measure(input.e, input.f, input.list, sizeof input.list, answer, sizeof answer);
+    number = measure(input.en, input.em, input.f, input.list, sizeof input.list, answer, sizeof answer);
 }
 
 static void call_rebuild(void)
@@ -95,17 +96,17 @@ static void call_check(void)
 
 static void call_partition(void)
 {
-    number = partition(input.e, input.f, input.list, sizeof input.list, zeros, input.length, zeros, BYTES, choice, sizeof choice,
+    number = partition(input.en, input.em, input.f, input.list, sizeof input.list, zeros, input.length, zeros, BYTES, choice, sizeof choice,
                        list_area, sizeof list_area, area, BYTES, answer, sizeof answer);
 }
 
 static void call_pass(void)
 {
-    number = pass(input.e, input.f, input.list, sizeof input.list, zeros, input.length, zeros, BYTES, choice, sizeof choice,
+    number = pass(input.en, input.em, input.f, input.list, sizeof input.list, zeros, input.length, zeros, BYTES, choice, sizeof choice,
                   list_area, sizeof list_area, area, BYTES, answer, sizeof answer);
 }
 
-/* The calls, whether E and F go into them, and the most that they may take. */
+/* The calls, whether the price goes into them, and the most that they may take. */
 static const struct call {
     const char *name;
     void (*run)(void);
@@ -116,7 +117,7 @@ static const struct call {
     { "rebuild", call_rebuild, 0, KIB },
     { "check", call_check, 0, KIB },
     { "partition", call_partition, 1, KIB },
-    { "pass", call_pass, 1, 68 * KIB },
+    { "pass", call_pass, 1, 64 * KIB },
 };
 
 enum { CALLS = sizeof calls / sizeof *calls };

@@ -1,9 +1,9 @@
 /* deposit.c - a small controller: a new generation of a file, kept as a list against the old one at the least cost.
  *
- *   deposit OLD NEW [E F]
+ *   deposit OLD NEW [EN EM F]
  *
- * OLD is the store and NEW the version of document 01; E and F are the price, 16 and 1024 where they are not given, F in 256ths of a disk
- * byte. It finds matches, measures the list found, hands it to pass and to partition, and rebuilds NEW from what partition wrote. Costs
+ * OLD is the store and NEW the version of document 01; EN, EM and F are the price, 12, 16 and 1024 where they are not given: a new entry has
+ * no address, which spares 4 bytes, and F is in 256ths of a disk byte. It finds matches, measures the list found, hands it to pass and to partition, and rebuilds NEW from what partition wrote. Costs
  * are printed in disk bytes. Nothing goes to disk.
  *
  * In order: errors; files; the list; the finder of matches; the calls; the report. Exit 0 where NEW came back, else 1 and one line.
@@ -189,7 +189,7 @@ static void find_matches(struct bytes store, struct bytes version, struct list *
 struct deposit {
     struct bytes store, version;
     struct list found;
-    uint32_t e, f;
+    uint32_t en, em, f;
 };
 
 /* The answer area's fields that are used here. */
@@ -206,7 +206,7 @@ struct written {
     uint8_t *block;
 };
 
-typedef uint32_t divide(uint32_t, uint32_t, const uint8_t *, size_t, const uint8_t *, size_t, const uint8_t *, size_t,
+typedef uint32_t divide(uint32_t, uint32_t, uint32_t, const uint8_t *, size_t, const uint8_t *, size_t, const uint8_t *, size_t,
                         uint8_t *, size_t, uint8_t *, size_t, uint8_t *, size_t, uint8_t *, size_t);
 
 /* Takes an answer area apart, where the call was accepted. */
@@ -221,7 +221,7 @@ static struct answer answer_of(const char *call, const uint8_t *area)
 static struct answer measure_found(const struct deposit *d)
 {
     uint8_t area[ANSWER_BYTES];
-    measure(d->e, d->f, d->found.bytes, RECORD_BYTES * d->found.records, area, sizeof area);
+    measure(d->en, d->em, d->f, d->found.bytes, RECORD_BYTES * d->found.records, area, sizeof area);
     return answer_of("measure", area);
 }
 
@@ -231,8 +231,8 @@ static struct written *divided(const char *name, divide *call, const struct depo
     uint8_t area[ANSWER_BYTES];
     struct written *w = allocate(sizeof *w);
     w->block = allocate(d->version.length);
-    call(d->e, d->f, d->found.bytes, RECORD_BYTES * d->found.records, d->version.at, d->version.length, d->store.at, d->store.length,
-         w->choice, sizeof w->choice, w->list, sizeof w->list, w->block, d->version.length, area, sizeof area);
+    call(d->en, d->em, d->f, d->found.bytes, RECORD_BYTES * d->found.records, d->version.at, d->version.length, d->store.at,
+         d->store.length, w->choice, sizeof w->choice, w->list, sizeof w->list, w->block, d->version.length, area, sizeof area);
     w->answer = answer_of(name, area);
     return w;
 }
@@ -271,8 +271,8 @@ static void print_saved(const char *beside, uint64_t cost, uint64_t least)
 
 static void print_report(const struct deposit *d, struct answer found, struct answer passed, struct answer least)
 {
-    printf("store %zu bytes, version %zu bytes; E %" PRIu32 ", F %" PRIu32 ": an entry costs %.2f disk bytes\n\n",
-           d->store.length, d->version.length, d->e, d->f, in_disk_bytes((uint64_t)d->e * d->f));
+    printf("store %zu bytes, version %zu bytes; EN %" PRIu32 ", EM %" PRIu32 ", F %" PRIu32 ": a new entry costs %.2f disk bytes, a match %.2f\n\n",
+           d->store.length, d->version.length, d->en, d->em, d->f, in_disk_bytes((uint64_t)d->en * d->f), in_disk_bytes((uint64_t)d->em * d->f));
     printf("%-22s %8s %13s %19s\n", "list", "entries", "stored bytes", "cost in disk bytes");
     print_row("every match kept", found);
     print_row("the pass", passed);
@@ -300,17 +300,18 @@ static uint32_t number_of(const char *text)
 {
     const size_t length = strlen(text);
     if (length == 0 || length > 9 || strspn(text, "0123456789") != length)
-        fail("%s is not a number of 1 to 9 digits; usage: deposit OLD NEW [E F]", text);
+        fail("%s is not a number of 1 to 9 digits; usage: deposit OLD NEW [EN EM F]", text);
     return (uint32_t)strtoul(text, NULL, 10);
 }
 
 int main(int count, char **arguments)
 {
-    if (count != 3 && count != 5)
-        fail("usage: deposit OLD NEW [E F]");
+    if (count != 3 && count != 6)
+        fail("usage: deposit OLD NEW [EN EM F]");
     struct deposit *d = allocate(sizeof *d);
-    d->e = count == 5 ? number_of(arguments[3]) : 16;
-    d->f = count == 5 ? number_of(arguments[4]) : 4 * DISK_BYTE;
+    d->en = count == 6 ? number_of(arguments[3]) : 12;
+    d->em = count == 6 ? number_of(arguments[4]) : 16;
+    d->f = count == 6 ? number_of(arguments[5]) : 4 * DISK_BYTE;
     d->store = read_file(arguments[1], STORE_MOST);
     d->version = read_file(arguments[2], VERSION_MOST);
     d->found.records = 0;

@@ -1,4 +1,5 @@
-/* reference.c - the five calls of document 01, with F and costs in 256ths of a disk byte (document 02, S-1), a second time, in plain C.
+/* reference.c - the five calls of document 01, with costs in 256ths of a disk byte and a price for new entries and one for matches
+ * (document 02, S-1 and S-2), a second time, in plain C.
  *
  * In order: limits; reading and writing of fields; the checks of the inputs; the cost; measure, rebuild and check; the least
  * choice; the pass; what partition and pass write. It shares no line with the library and takes nothing from its header.
@@ -40,11 +41,17 @@ static uint32_t address_of(const uint8_t *list, size_t i)
     return get32(list + RECORD * i + 8);
 }
 
-/* What goes into the answer area. */
+/* Index bytes of a new entry and of a match, and 256ths of a disk byte for one of them. */
+struct price {
+    uint32_t en, em, f;
+};
+
+/* What goes into the answer area; and how many of the entries are new, which does not. */
 struct answer {
     uint32_t number, place;
     uint64_t cost;
     uint32_t entries, stored, looks, whole;
+    uint32_t new_entries;
 };
 
 static uint32_t give(const struct answer *a, uint8_t *area)
@@ -78,9 +85,9 @@ struct inputs {
 };
 
 /* Number 1. */
-static int bad_price(uint32_t e, uint32_t f)
+static int bad_price(const struct price *price)
 {
-    return e < 1 || e > 255 || f < 1 || f > 65535;
+    return price->en < 1 || price->en > 255 || price->em < 1 || price->em > 255 || price->f < 1 || price->f > 65535;
 }
 
 /* Numbers 2 and 3, or 0. */
@@ -131,13 +138,16 @@ static struct answer walk(const struct inputs *in)
     const size_t n = in->list_len / RECORD;
     const uint64_t limit = in->has_version ? in->version_len : LONGEST_VERSION;
     uint64_t whole = 0, stored = 0;
+    uint32_t new_entries = 0;
     for (size_t i = 0; i < n; i++) {
         const uint32_t number = bad_record(in, i, whole, limit);
         if (number != 0)
             return refused(number, i);
         whole += size_of(in->list, i);
-        if (in->list[RECORD * i] == NEW)
+        if (in->list[RECORD * i] == NEW) {
             stored += size_of(in->list, i);
+            new_entries++;
+        }
     }
     if (in->has_version && whole != in->version_len)
         return refused(6, n);
@@ -145,15 +155,16 @@ static struct answer walk(const struct inputs *in)
     a.entries = (uint32_t)n;
     a.stored = (uint32_t)stored;
     a.whole = (uint32_t)whole;
+    a.new_entries = new_entries;
     return a;
 }
 
 /* ---- The cost, in 256ths of a disk byte ---- */
 
-/* What an entry costs: P. */
-static uint64_t entry_cost(uint32_t e, uint32_t f)
+/* What an entry costs, by its kind. */
+static uint64_t entry_cost(const struct price *price, uint8_t record_kind)
 {
-    return (uint64_t)f * e;
+    return (uint64_t)price->f * (record_kind == NEW ? price->en : price->em);
 }
 
 /* What so many stored bytes cost. */
@@ -162,19 +173,27 @@ static uint64_t bytes_cost(uint64_t bytes)
     return 256 * bytes;
 }
 
+/* What a list costs, by its counts. */
+static uint64_t list_cost(const struct price *price, const struct answer *a)
+{
+    const uint32_t matches = a->entries - a->new_entries;
+    return entry_cost(price, NEW) * a->new_entries + entry_cost(price, MATCH) * matches + bytes_cost(a->stored);
+}
+
 /* ---- Measure, rebuild and check ---- */
 
-uint32_t ref_measure(uint32_t e, uint32_t f,
+uint32_t ref_measure(uint32_t en, uint32_t em, uint32_t f,
                      const uint8_t *list, size_t list_len,
                      uint8_t *answer, size_t answer_len)
 {
     if (answer_len < ANSWER_LEAST)
         return 9;
     const struct inputs in = { .list = list, .list_len = list_len };
-    const uint32_t fault = bad_price(e, f) ? 1 : bad_length(&in);
+    const struct price price = { en, em, f };
+    const uint32_t fault = bad_price(&price) ? 1 : bad_length(&in);
     struct answer a = fault != 0 ? refused(fault, 0) : walk(&in);
     if (a.number == 0)
-        a.cost = entry_cost(e, f) * a.entries + bytes_cost(a.stored);
+        a.cost = list_cost(&price, &a);
     return give(&a, answer);
 }
 
@@ -255,29 +274,31 @@ static uint64_t lesser(uint64_t a, uint64_t b)
 }
 
 /* Fills both rows from the rear. */
-static void fill_costs(const uint8_t *list, size_t n, uint64_t price)
+static void fill_costs(const uint8_t *list, size_t n, const struct price *price)
 {
+    const uint64_t new_entry = entry_cost(price, NEW), match = entry_cost(price, MATCH);
     after_kept[n] = 0;
     after_new[n] = 0;
     for (size_t i = n; i-- > 0;) {
         const uint64_t joined = bytes_cost(size_of(list, i)) + after_new[i + 1];
-        const uint64_t kept = price + after_kept[i + 1];
+        const uint64_t kept = match + after_kept[i + 1];
         const int is_new = list[RECORD * i] == NEW;
         after_new[i] = is_new ? joined : lesser(kept, joined);
-        after_kept[i] = is_new ? price + joined : lesser(kept, price + joined);
+        after_kept[i] = is_new ? new_entry + joined : lesser(kept, new_entry + joined);
     }
 }
 
 /* Chooses forwards; a match is stored only where that costs less. */
-static void choose_least(const uint8_t *list, size_t n, uint64_t price, uint8_t *choice)
+static void choose_least(const uint8_t *list, size_t n, const struct price *price, uint8_t *choice)
 {
+    const uint64_t new_entry = entry_cost(price, NEW), match = entry_cost(price, MATCH);
     fill_costs(list, n, price);
-    uint64_t entry = price;
+    uint64_t entry = new_entry;
     for (size_t i = 0; i < n; i++) {
         const uint64_t joined = entry + bytes_cost(size_of(list, i)) + after_new[i + 1];
-        const uint64_t kept = price + after_kept[i + 1];
+        const uint64_t kept = match + after_kept[i + 1];
         choice[i] = list[RECORD * i] == NEW || joined < kept;
-        entry = choice[i] ? 0 : price;
+        entry = choice[i] ? 0 : new_entry;
     }
 }
 
@@ -310,26 +331,27 @@ static void fuse_after(uint16_t p)
 }
 
 /* One look at p: where p goes. */
-static uint16_t look(uint16_t p, uint64_t price)
+static uint16_t look(uint16_t p, const struct price *price)
 {
+    const uint64_t new_entry = entry_cost(price, NEW), match = entry_cost(price, MATCH);
     const uint16_t b = before[p], a = after[p];
     const uint64_t stored = bytes_cost(size[p]), both_stored = bytes_cost((uint64_t)size[p] + size[a]);
     if (kind[p] != MATCH)
         return a;
-    if (kind[b] == NEW && kind[a] == NEW && stored < 2 * price) {
+    if (kind[b] == NEW && kind[a] == NEW && stored < match + new_entry) {
         fuse_after(p);
         fuse_after(b);
         return after[b];
     }
-    if (kind[b] == NEW && stored < price) {
+    if (kind[b] == NEW && stored < match) {
         fuse_after(b);
         return a;
     }
-    if (kind[a] == NEW && stored < price) {
+    if (kind[a] == NEW && stored < match) {
         fuse_after(p);
         return b;
     }
-    if (kind[a] == MATCH && kind[b] != NEW && kind[after[a]] != NEW && both_stored < price) {
+    if (kind[a] == MATCH && kind[b] != NEW && kind[after[a]] != NEW && both_stored + new_entry < 2 * match) {
         fuse_after(p);
         return b;
     }
@@ -337,7 +359,7 @@ static uint16_t look(uint16_t p, uint64_t price)
 }
 
 /* Looks until p is the rear, then reads the choice off the list; the number of looks. */
-static uint32_t choose_by_pass(const uint8_t *list, size_t n, uint64_t price, uint8_t *choice)
+static uint32_t choose_by_pass(const uint8_t *list, size_t n, const struct price *price, uint8_t *choice)
 {
     const uint16_t rear = (uint16_t)(n + 1);
     uint32_t looks = 0;
@@ -354,7 +376,7 @@ static uint32_t choose_by_pass(const uint8_t *list, size_t n, uint64_t price, ui
 /* What partition and pass are lent. */
 struct job {
     struct inputs in;
-    uint32_t e, f;
+    struct price price;
     uint8_t *choice, *list_area, *block_area;
     size_t choice_len, list_area_len, block_area_len;
 };
@@ -363,7 +385,7 @@ struct job {
 static struct answer judge(const struct job *job)
 {
     const struct inputs *in = &job->in;
-    const uint32_t fault = bad_price(job->e, job->f) ? 1 : bad_length(in);
+    const uint32_t fault = bad_price(&job->price) ? 1 : bad_length(in);
     if (fault != 0)
         return refused(fault, 0);
     if (job->choice_len < in->list_len / RECORD || job->list_area_len < in->list_len ||
@@ -395,17 +417,18 @@ static struct answer write_choice(const struct job *job)
             continue;
         }
         const uint32_t run = run_size(job, n, &i);
+        a.new_entries++;
         memset(out, 0, RECORD);
         put32(out + 4, run);
         memcpy(job->block_area + a.stored, from, run);
         from += run;
         a.stored += run;
     }
-    a.cost = entry_cost(job->e, job->f) * a.entries + bytes_cost(a.stored);
+    a.cost = list_cost(&job->price, &a);
     return a;
 }
 
-uint32_t ref_partition(uint32_t e, uint32_t f,
+uint32_t ref_partition(uint32_t en, uint32_t em, uint32_t f,
                        const uint8_t *list, size_t list_len,
                        const uint8_t *version, size_t version_len,
                        const uint8_t *store, size_t store_len,
@@ -416,17 +439,17 @@ uint32_t ref_partition(uint32_t e, uint32_t f,
 {
     if (answer_len < ANSWER_LEAST)
         return 9;
-    const struct job job = { { list, version, store, list_len, version_len, store_len, 1, 1 }, e, f,
+    const struct job job = { { list, version, store, list_len, version_len, store_len, 1, 1 }, { en, em, f },
                              choice, list_area, block_area, choice_len, list_area_len, block_area_len };
     struct answer a = judge(&job);
     if (a.number == 0) {
-        choose_least(list, list_len / RECORD, entry_cost(e, f), choice);
+        choose_least(list, list_len / RECORD, &job.price, choice);
         a = write_choice(&job);
     }
     return give(&a, answer);
 }
 
-uint32_t ref_pass(uint32_t e, uint32_t f,
+uint32_t ref_pass(uint32_t en, uint32_t em, uint32_t f,
                   const uint8_t *list, size_t list_len,
                   const uint8_t *version, size_t version_len,
                   const uint8_t *store, size_t store_len,
@@ -437,11 +460,11 @@ uint32_t ref_pass(uint32_t e, uint32_t f,
 {
     if (answer_len < ANSWER_LEAST)
         return 9;
-    const struct job job = { { list, version, store, list_len, version_len, store_len, 1, 1 }, e, f,
+    const struct job job = { { list, version, store, list_len, version_len, store_len, 1, 1 }, { en, em, f },
                              choice, list_area, block_area, choice_len, list_area_len, block_area_len };
     struct answer a = judge(&job);
     if (a.number == 0) {
-        const uint32_t looks = choose_by_pass(list, list_len / RECORD, entry_cost(e, f), choice);
+        const uint32_t looks = choose_by_pass(list, list_len / RECORD, &job.price, choice);
         a = write_choice(&job);
         a.looks = looks;
     }

@@ -1,4 +1,5 @@
-/* reference.h - the five calls of document 01, with F and costs in 256ths of a disk byte (document 02, S-1), a second time, in plain C.
+/* reference.h - the five calls of document 01, with costs in 256ths of a disk byte and a price for new entries and one for matches
+ * (document 02, S-1 and S-2), a second time, in plain C.
  *
  * Scope: what the differential test compares the library with, and what the benchmark takes for its baseline. The calls have
  * the signatures of controller.h, with the prefix ref_; areas, answer area, numbers and their order are those of document 01.
@@ -11,7 +12,7 @@
 #include <stdint.h>
 
 /* What a list costs. */
-uint32_t ref_measure(uint32_t e, uint32_t f,
+uint32_t ref_measure(uint32_t en, uint32_t em, uint32_t f,
                      const uint8_t *list, size_t list_len,
                      uint8_t *answer, size_t answer_len);
 
@@ -30,7 +31,7 @@ uint32_t ref_check(const uint8_t *list, size_t list_len,
                    uint8_t *answer, size_t answer_len);
 
 /* The least choice, its list and its stored block. */
-uint32_t ref_partition(uint32_t e, uint32_t f,
+uint32_t ref_partition(uint32_t en, uint32_t em, uint32_t f,
                        const uint8_t *list, size_t list_len,
                        const uint8_t *version, size_t version_len,
                        const uint8_t *store, size_t store_len,
@@ -40,7 +41,7 @@ uint32_t ref_partition(uint32_t e, uint32_t f,
                        uint8_t *answer, size_t answer_len);
 
 /* The pass's choice, its list and its stored block. */
-uint32_t ref_pass(uint32_t e, uint32_t f,
+uint32_t ref_pass(uint32_t en, uint32_t em, uint32_t f,
                   const uint8_t *list, size_t list_len,
                   const uint8_t *version, size_t version_len,
                   const uint8_t *store, size_t store_len,

@@ -1,4 +1,5 @@
--- The file price, document 01, "Sheets": E, then F, 2 bytes each, lowest byte first; of any other length it is bad.
+-- The file price, document 02, S-2: "the price file holds EN, EM, F, 2 bytes each, and one of any length but 6 is bad"; lowest byte first (document
+-- 01, "Sheets").
 -- Assumes nothing.
 use Prim.Native.Nat.{ℕ, _+_, _*_}
 use mathlib.Core.Bool.{cond}
@@ -13,4 +14,4 @@ abbrev pub pairAt : List ℕ → ℕ → ℕ
 pairAt s at = getD s at 0 + 256 * getD s (at + 1) 0
 
 abbrev pub priceIn : List ℕ → PriceFile
-priceIn s = cond (eqb (length s) 4) (Holds (record { e = pairAt s 0; f = pairAt s 2 })) Bad
+priceIn s = cond (eqb (length s) 6) (Holds (record { en = pairAt s 0; em = pairAt s 2; f = pairAt s 4 })) Bad

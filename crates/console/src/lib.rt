@@ -1,6 +1,6 @@
 // What the program `partition` reads and writes: the files of the folder where it is run, and its text.
 //
-// A file that is missing, cannot be read or is longer than its buffer is bad, and so is a price not of 4 bytes.
+// A file that is missing, cannot be read or is longer than its buffer is bad, and so is a price not of 6 bytes.
 // The text of a run is made by the crate `program`; only the reading and writing are here.
 ghost use Prim.Native.Nat.{_+_, _*_, _≤_};
 ghost use mathlib.Core.Path.{_≡_};
@@ -53,12 +53,13 @@ fn number(low: u8, high: u8) -> u32
 pub fn price_in(bytes: &[u8]) -> PriceFile
     ensures { λ r. ⌜ r ≡ priceIn (now (bytes .entry)) ⌝ }
 {
-    if bytes.len() != 4 {
+    if bytes.len() != 6 {
         return PriceFile::Bad;
     }
     PriceFile::Holds(Price {
-        e: number(bytes[0], bytes[1]),
-        f: number(bytes[2], bytes[3]),
+        en: number(bytes[0], bytes[1]),
+        em: number(bytes[2], bytes[3]),
+        f: number(bytes[4], bytes[5]),
     })
 }
 

@@ -12,13 +12,13 @@ use price::Price;
 
 // Measure.
 #[no_mangle]
-pub extern "C" fn measure(e: u32, f: u32, list: &[u8], answer: &mut [u8]) -> u32
-    ensures { λ r. ⌜ Answered (measured (record { e = e; f = f }) (now (list .entry))) (now (answer .entry)) r (now (answer .exit)) ⌝ }
+pub extern "C" fn measure(en: u32, em: u32, f: u32, list: &[u8], answer: &mut [u8]) -> u32
+    ensures { λ r. ⌜ Answered (measured (record { en = en; em = em; f = f }) (now (list .entry))) (now (answer .entry)) r (now (answer .exit)) ⌝ }
 {
     if answer.len() < 32 {
         return 9;
     }
-    answer::give(measure::measure(Price { e, f }, list), answer)
+    answer::give(measure::measure(Price { en, em, f }, list), answer)
 }
 
 // Rebuild.
@@ -42,7 +42,8 @@ pub extern "C" fn rebuild<'a>(
 // Partition.
 #[no_mangle]
 pub extern "C" fn partition(
-    e: u32,
+    en: u32,
+    em: u32,
     f: u32,
     list: &[u8],
     version: &[u8],
@@ -52,14 +53,14 @@ pub extern "C" fn partition(
     block_area: &mut [u8],
     answer: &mut [u8],
 ) -> u32
-    ensures { λ r. ⌜ PartitionGiven (record { e = e; f = f }) (now (list .entry)) (now (version .entry)) (now (store .entry)) (areas (now (choice .entry)) (now («list_area» .entry)) (now («block_area» .entry))) (now (answer .entry)) r (areas (now (choice .exit)) (now («list_area» .exit)) (now («block_area» .exit))) (now (answer .exit)) ⌝ }
+    ensures { λ r. ⌜ PartitionGiven (record { en = en; em = em; f = f }) (now (list .entry)) (now (version .entry)) (now (store .entry)) (areas (now (choice .entry)) (now («list_area» .entry)) (now («block_area» .entry))) (now (answer .entry)) r (areas (now (choice .exit)) (now («list_area» .exit)) (now («block_area» .exit))) (now (answer .exit)) ⌝ }
 {
     if answer.len() < 32 {
         return 9;
     }
     answer::give(
         call_partition::partition(
-            Price { e, f },
+            Price { en, em, f },
             list,
             version,
             store,
@@ -74,7 +75,8 @@ pub extern "C" fn partition(
 // Pass.
 #[no_mangle]
 pub extern "C" fn pass(
-    e: u32,
+    en: u32,
+    em: u32,
     f: u32,
     list: &[u8],
     version: &[u8],
@@ -84,14 +86,14 @@ pub extern "C" fn pass(
     block_area: &mut [u8],
     answer: &mut [u8],
 ) -> u32
-    ensures { λ r. ⌜ PassGiven (record { e = e; f = f }) (now (list .entry)) (now (version .entry)) (now (store .entry)) (areas (now (choice .entry)) (now («list_area» .entry)) (now («block_area» .entry))) (now (answer .entry)) r (areas (now (choice .exit)) (now («list_area» .exit)) (now («block_area» .exit))) (now (answer .exit)) ⌝ }
+    ensures { λ r. ⌜ PassGiven (record { en = en; em = em; f = f }) (now (list .entry)) (now (version .entry)) (now (store .entry)) (areas (now (choice .entry)) (now («list_area» .entry)) (now («block_area» .entry))) (now (answer .entry)) r (areas (now (choice .exit)) (now («list_area» .exit)) (now («block_area» .exit))) (now (answer .exit)) ⌝ }
 {
     if answer.len() < 32 {
         return 9;
     }
     answer::give(
         call_pass::pass(
-            Price { e, f },
+            Price { en, em, f },
             list,
             version,
             store,

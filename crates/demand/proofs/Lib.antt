@@ -1,4 +1,6 @@
 pub mod WrittenList
 pub mod Demanding
 pub mod WorkedHolds
+pub mod Giving
 pub mod ScalingHolds
+pub mod FormerHolds

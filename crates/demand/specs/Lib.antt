@@ -1,3 +1,5 @@
 pub mod Demand
 pub mod Worked
+pub mod Gives
 pub mod Scaling
+pub mod Former

@@ -1,28 +1,24 @@
--- Document 02, S-1: rates that are all multiplied by one number; and a factor of whole disk bytes, in 256ths, beside document 01.
+-- Document 02, S-1: rates that are all multiplied by one number; and a factor of whole disk bytes, in 256ths, beside one in disk bytes.
 --
--- In order: the law of scaling; document 01's rates; what measure, partition and pass answer and write at F = 256 × G, by their contracts.
+-- In order: the law of scaling; the rates in disk bytes; what measure, partition and pass answer and write at F = 256 × G, by their contracts.
 -- Assumes nothing.
 use Prim.Native.Nat.{ℕ, _*_, _<_}
 use mathlib.Core.Path.{_≡_}
 use mathlib.Core.List.{List}
 use Rattle.format.specs.declared.Record.{Record}
-use Rattle.format.specs.declared.Ruling.{Ruling}
-use Rattle.format.specs.declared.Figures.{Figures}
-use Rattle.format.specs.declared.Answer.{Answer}
-use Rattle.format.specs.declared.Answer.the-variants.{Accepted, Refused}
 use Rattle.format.specs.Refusal.{answer}
 use Rattle.format.specs.Record.{recordsOf}
 use Rattle.price.specs.declared.Price.{Price}
 use Rattle.price.specs.declared.Rates.{Rates}
-use Rattle.price.specs.Price.{ratesAt, scaled, cost}
-use Rattle.measure.specs.Measure.{measureRuling, measures, measured}
-use Rattle.choice.specs.Choice.{Bit, least}
+use Rattle.price.specs.Price.{scaled, cost}
+use Rattle.measure.specs.Measure.{measureRuling, measured}
+use Rattle.choice.specs.Choice.{least}
 use Rattle.admit.specs.Admit.{partitionRuling}
-use Rattle.writer.specs.Decide.{decidedAnswer, decidedAreas}
 use Rattle.call_partition.specs.Partition.{Partitioned}
 use Rattle.linear.specs.Pass.{passOutcomes, passLooks, passChoice}
 use Rattle.call_pass.specs.Pass.{PassMade}
 use Rattle.demand.specs.Demand.{Call}
+use Rattle.demand.specs.Gives.{measuresAt, Gives}
 
 -- ---- the law of scaling
 
@@ -41,36 +37,28 @@ ScalingLaw = (k : ℕ) (r : Rates) (rs : List Record) → 0 < k → Scales k r r
 
 -- ---- a factor of whole disk bytes
 
--- document 01's rates for E and a factor of g disk bytes: P = g × E for an entry, 1 for a stored byte
-abbrev pub wholeRates : ℕ → ℕ → Rates
-wholeRates e g = ratesAt (g * e) 1
+-- the rates for EN, EM and a factor of g disk bytes, in disk bytes: g × EN for a new entry, g × EM for a match, 1 for a stored byte; document 01's,
+-- where EN = EM
+abbrev pub wholeRates : ℕ → ℕ → ℕ → Rates
+wholeRates en em g = record { fresh = record { 0 = g * en }; kept = record { 0 = g * em }; byte = record { 0 = 1 } }
 
 -- the same factor in 256ths
-abbrev pub wholePrice : ℕ → ℕ → Price
-wholePrice e g = record { e = e; f = 256 * g }
+abbrev pub wholePrice : ℕ → ℕ → ℕ → Price
+wholePrice en em g = record { en = en; em = em; f = 256 * g }
 
--- figures, and an answer, with the cost multiplied by k
-abbrev pub figuresTimes : ℕ → Figures → Figures
-figuresTimes k x = record { cost = k * x .cost; entries = x .entries; stored = x .stored; looks = x .looks; whole = x .whole }
+-- the cost in disk bytes, in 256ths
+abbrev pub wholeCost : ℕ → ℕ → ℕ → List Record → ℕ
+wholeCost en em g l = 256 * cost (wholeRates en em g) l
 
-abbrev pub answerTimes : ℕ → Answer → Answer
-answerTimes k (Accepted x) = Accepted (figuresTimes k x)
-answerTimes k (Refused r) = Refused r
+-- at F = 256 × g: what measure answers; and what any call x answers and writes that meets partition's contract, or pass's. The choices and the looks
+-- are those of the rates in disk bytes
+pub record AtWhole (en em g : ℕ) (list v st : List ℕ) (x : Call) : Type 0 where
+  pub measure-whole : measured (wholePrice en em g) list ≡ answer (measureRuling (wholePrice en em g) list) (measuresAt (wholeCost en em g (recordsOf list)) (recordsOf list))
+  pub partition-whole : Partitioned (wholePrice en em g) list v st (x .before) (x .answer) (x .after)
+      → Gives (partitionRuling (wholePrice en em g) list v st (x .before)) (wholeCost en em g) list v (least (wholeRates en em g) (recordsOf list)) 0 x
+  pub pass-whole : PassMade (wholePrice en em g) list v st (x .before) (x .answer) (x .after)
+      → Gives (partitionRuling (wholePrice en em g) list v st (x .before)) (wholeCost en em g) list v (passChoice (wholeRates en em g) (recordsOf list)) (passLooks (wholeRates en em g) (recordsOf list)) x
 
--- the call x, for the ruling q on its inputs, answers and writes what document 01 has for the choice c, found in so many looks, at the factor g;
--- but for the cost, which is in 256ths
-pub record AsWhole (q : Ruling) (e g : ℕ) (list v : List ℕ) (c : List Bit) (looks : ℕ) (x : Call) : Type 0 where
-  pub answered : x .answer ≡ answerTimes 256 (decidedAnswer q (wholeRates e g) list c looks)
-  pub areas-after : x .after ≡ decidedAreas q list v c (x .before)
-
--- at F = 256 × g: what measure answers; and what any call x answers and writes that meets partition's contract, or pass's
-pub record AtWhole (e g : ℕ) (list v st : List ℕ) (x : Call) : Type 0 where
-  pub measure-whole : measured (wholePrice e g) list ≡ answerTimes 256 (answer (measureRuling (wholePrice e g) list) (measures (wholeRates e g) (recordsOf list)))
-  pub partition-whole : Partitioned (wholePrice e g) list v st (x .before) (x .answer) (x .after)
-      → AsWhole (partitionRuling (wholePrice e g) list v st (x .before)) e g list v (least (wholeRates e g) (recordsOf list)) 0 x
-  pub pass-whole : PassMade (wholePrice e g) list v st (x .before) (x .answer) (x .after)
-      → AsWhole (partitionRuling (wholePrice e g) list v st (x .before)) e g list v (passChoice (wholeRates e g) (recordsOf list)) (passLooks (wholeRates e g) (recordsOf list)) x
-
--- for every E, factor, list, version and store, and for all answers and areas
+-- for all prices of entries and factors, list, version and store, and for all answers and areas
 abbrev pub WholeFactor : Type 0
-WholeFactor = (e g : ℕ) (list v st : List ℕ) (x : Call) → AtWhole e g list v st x
+WholeFactor = (en em g : ℕ) (list v st : List ℕ) (x : Call) → AtWhole en em g list v st x

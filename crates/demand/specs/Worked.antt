@@ -1,5 +1,6 @@
 -- The worked examples as one table: the price and the list; the least choice and its cost; the pass's cost and looks. Document 01's (its sheets A to
--- J), at E 10 and F 256; then one list at F 256, 384 and 512, where the factor between two whole ones has a least choice that neither of them has.
+-- J), at EN = EM = 10 and F 256; then one list at F 256, 384 and 512, where the factor between two whole ones has a least choice that neither of them
+-- has; then lists at F 256 where a new entry is cheaper or dearer than a match.
 -- Assumes nothing.
 use Prim.Native.Nat.{ℕ, _*_}
 use mathlib.Core.Path.{_≡_}
@@ -23,13 +24,13 @@ pub record Worked : Type 0 where
 abbrev pub worked : Price → List Record → List Bit → ℕ → ℕ → ℕ → Worked
 worked p l c n m k = record { price = p; list = l; choice = c; cost = n; pass-cost = m; looks = k }
 
--- E 10, and F
-abbrev pub factor : ℕ → Price
-factor f = record { e = 10; f = f }
+-- EN, EM and F
+abbrev pub price : ℕ → ℕ → ℕ → Price
+price en em f = record { en = en; em = em; f = f }
 
 -- an example of document 01, with its costs in disk bytes: "The sheets hold with F = 256 and every cost times 256"
 abbrev pub inBytes : List Record → List Bit → ℕ → ℕ → ℕ → Worked
-inBytes l c n m k = worked (factor 256) l c (256 * n) (256 * m) k
+inBytes l c n m k = worked (price 10 10 256) l c (256 * n) (256 * m) k
 
 -- N1 M12 M60 M17 N1
 abbrev pub between : List Record
@@ -48,9 +49,13 @@ table =
     ∷ inBytes (Match 4 0 ∷ Match 4 50 ∷ Match 4 90 ∷ []) (store ∷ store ∷ store ∷ []) 22 22 4
     ∷ inBytes (Match 6 0 ∷ Match 6 50 ∷ Match 6 90 ∷ []) (store ∷ store ∷ store ∷ []) 28 30 3
     ∷ inBytes (Match 10 0 ∷ Match 4 50 ∷ Match 4 90 ∷ []) (keep ∷ store ∷ store ∷ []) 28 28 4
-    ∷ worked (factor 256) between (store ∷ keep ∷ keep ∷ keep ∷ store ∷ []) 13312 13312 5
-    ∷ worked (factor 384) between (store ∷ store ∷ keep ∷ keep ∷ store ∷ []) 18944 18944 5
-    ∷ worked (factor 512) between (store ∷ store ∷ keep ∷ store ∷ store ∷ []) 23296 23296 6
+    ∷ worked (price 10 10 256) between (store ∷ keep ∷ keep ∷ keep ∷ store ∷ []) 13312 13312 5
+    ∷ worked (price 10 10 384) between (store ∷ store ∷ keep ∷ keep ∷ store ∷ []) 18944 18944 5
+    ∷ worked (price 10 10 512) between (store ∷ store ∷ keep ∷ store ∷ store ∷ []) 23296 23296 6
+    ∷ worked (price 1 10 256) (Match 20 0 ∷ Match 4 50 ∷ Match 20 90 ∷ []) (keep ∷ store ∷ keep ∷ []) 6400 7680 3
+    ∷ worked (price 10 1 256) (New 5 ∷ Match 19 0 ∷ New 5 ∷ []) (store ∷ keep ∷ store ∷ []) 7936 7936 3
+    ∷ worked (price 1 10 256) (Match 6 0 ∷ Match 6 50 ∷ Match 6 90 ∷ []) (store ∷ store ∷ store ∷ []) 4864 4864 4
+    ∷ worked (price 12 10 256) (Match 4 0 ∷ Match 4 50 ∷ Match 4 90 ∷ []) (store ∷ store ∷ store ∷ []) 6144 7680 3
     ∷ []
 
 -- the rates of an example

@@ -1,4 +1,4 @@
--- Document 01, "The price", with F and all costs in 256ths of a disk byte: document 02, S-1.
+-- Document 01, "The price", as document 02 has it: F and all costs in 256ths of a disk byte (S-1), and new entries priced apart from matches (S-2).
 -- Assumes nothing.
 use Prim.Native.Nat.{ℕ, suc, _+_, _*_, _≤_, _<_}
 use mathlib.Core.Path.{_≡_}
@@ -15,21 +15,13 @@ use Rattle.price.specs.declared.Cost.{Cost}
 use Rattle.price.specs.declared.Price.{Price}
 use Rattle.price.specs.declared.Rates.{Rates}
 
--- E is 1 to 255, F is 1 to 65,535
+-- EN and EM are 1 to 255, F is 1 to 65,535
 abbrev pub priceFits : Price → Bool
-priceFits k = leb 1 (k .e) && leb (k .e) 255 && leb 1 (k .f) && leb (k .f) 65535
+priceFits k = leb 1 (k .en) && leb (k .en) 255 && leb 1 (k .em) && leb (k .em) 255 && leb 1 (k .f) && leb (k .f) 65535
 
--- P, in 256ths of a disk byte: E index bytes for an entry, F 256ths for each
-abbrev pub entryPrice : Price → ℕ
-entryPrice k = k .f * k .e
-
--- an entry costs p, new or match, and a stored byte costs b
-abbrev pub ratesAt : ℕ → ℕ → Rates
-ratesAt p b = record { fresh = record { 0 = p }; kept = record { 0 = p }; byte = record { 0 = b } }
-
--- P, P and 256, since a cost is in 256ths of a disk byte
+-- what a list costs by its parts, in 256ths of a disk byte: F × EN for a new entry, F × EM for a match, 256 for a stored byte
 abbrev pub ratesOf : Price → Rates
-ratesOf k = ratesAt (entryPrice k) 256
+ratesOf k = record { fresh = record { 0 = k .f * k .en }; kept = record { 0 = k .f * k .em }; byte = record { 0 = 256 } }
 
 -- rates that are all multiplied by one number
 abbrev pub scaled : ℕ → Rates → Rates
@@ -48,7 +40,11 @@ matches [] = 0
 matches (New s ∷ l) = matches l
 matches (Match s a ∷ l) = suc (matches l)
 
--- what a list costs at the rates r; at a price's rates, "F × E × entries + 256 × stored bytes" (`cost-at`)
+-- the index bytes of a list: "EN × new entries + EM × matches"
+abbrev pub indexBytes : Price → List Record → ℕ
+indexBytes k l = k .en * news l + k .em * matches l
+
+-- what a list costs at the rates r; at a price's rates, F × its index bytes + 256 × its stored bytes (`cost-at`)
 abbrev pub cost : Rates → List Record → ℕ
 cost r l = r .fresh .0 * news l + r .kept .0 * matches l + r .byte .0 * stored l
 

@@ -19,9 +19,10 @@ pub struct DiskBytes(pub u64);
 // 256ths of a disk byte, the unit of cost.
 pub struct Cost(pub u64);
 
-// E, the index bytes of an entry, and F, the 256ths of a disk byte that one of them is worth.
+// EN and EM, the index bytes of a new entry and of a match, and F, the 256ths of a disk byte that one of them is worth.
 pub struct Price {
-    pub e: u32,
+    pub en: u32,
+    pub em: u32,
     pub f: u32,
 }
 
@@ -48,14 +49,20 @@ pub fn disk_cost(disk: DiskBytes) -> Cost
     Cost(256 * disk.0)
 }
 
-// Check 1: whether E and F are in their ranges.
+// Check 1: whether EN, EM and F are in their ranges.
 pub fn in_range(price: Price) -> bool
     ensures { λ r. ⌜ r ≡ priceFits price ⌝ }
 {
-    if price.e < 1 {
+    if price.en < 1 {
         return false;
     }
-    if 255 < price.e {
+    if 255 < price.en {
+        return false;
+    }
+    if price.em < 1 {
+        return false;
+    }
+    if 255 < price.em {
         return false;
     }
     if price.f < 1 {
@@ -64,17 +71,14 @@ pub fn in_range(price: Price) -> bool
     price.f <= 65535
 }
 
-// The rates of a price: an entry costs P, new or match, and a stored byte costs 256.
+// The rates of a price: a new entry costs F × EN, a match F × EM, and a stored byte 256.
 pub fn rates_of(price: Price) -> Rates
     ensures { λ r. ⌜ r ≡ ratesOf price ⌝ }
 {
-    let p = index_cost(IndexBytes(price.e as u64), price.f);
+    let fresh = index_cost(IndexBytes(price.en as u64), price.f);
+    let kept = index_cost(IndexBytes(price.em as u64), price.f);
     let byte = disk_cost(DiskBytes(1));
-    Rates {
-        fresh: p,
-        kept: p,
-        byte,
-    }
+    Rates { fresh, kept, byte }
 }
 
 // What so many stored bytes cost.

@@ -17,7 +17,7 @@ pub data File : Type 0 where
   whole : List ℕ → File
   bad : File
 
--- a price not of 4 bytes is bad too
+-- a price not of 6 bytes is bad too
 abbrev pub priceOfFile : File → PriceFile
 priceOfFile (whole s) = priceIn s
 priceOfFile bad = Bad

@@ -1,27 +1,31 @@
--- The tests of the merges at the price p of an entry and b of a stored byte: "each size is multiplied by 256 before it is compared with P or 2P" is
--- b = 256. And at rates that are all multiplied by one number above 0 the tests are the same.
+-- The tests of the merges at a price's rates, as document 02 writes them. And at rates that are all multiplied by one number above 0 the tests are
+-- the same.
 -- Assumes nothing.
 use Prim.Native.Nat.{ℕ, _+_, _*_, _<_}
 use native.Mathlib.Omega.{arith}
-use mathlib.Core.Path.{_≡_, refl}
+use mathlib.Core.Path.{_≡_, refl, ap}
 use mathlib.Core.Bool.{Bool}
 use lib.Dec.{ltb}
+use Rattle.price.specs.declared.Price.{Price}
 use Rattle.price.specs.declared.Rates.{Rates}
-use Rattle.price.specs.Price.{ratesAt, scaled}
-use Rattle.price.proofs.Scaling.{ltb-same, ltb-scaled}
+use Rattle.price.specs.Price.{ratesOf, scaled}
+use Rattle.price.proofs.Scaling.{ltb-scaled}
 use Rattle.rules.specs.Rules.{testsOf}
 
-pub record TestsAt (p b : ℕ) : Type 0 where
-  pub lone-at : (s : ℕ) → testsOf (ratesAt p b) .lone s ≡ ltb (b * s) (2 * p)
-  pub side-at : (s : ℕ) → testsOf (ratesAt p b) .side s ≡ ltb (b * s) p
-  pub pair-at : (s : ℕ) → testsOf (ratesAt p b) .pair s ≡ ltb (b * s) p
+-- "Merge 1 needs 256 × size < F × (EM + EN). Merges 2 and 3 need 256 × size < F × EM. Merge 4 needs 256 × both sizes + F × EN < 2 × F × EM"
+pub record TestsAt (k : Price) : Type 0 where
+  pub lone-at : (s : ℕ) → testsOf (ratesOf k) .lone s ≡ ltb (256 * s) (k .f * (k .em + k .en))
+  pub side-at : (s : ℕ) → testsOf (ratesOf k) .side s ≡ ltb (256 * s) (k .f * k .em)
+  pub pair-at : (s : ℕ) → testsOf (ratesOf k) .pair s ≡ ltb (256 * s + k .f * k .en) (2 * k .f * k .em)
 
-pub tests-at : (p b : ℕ) → TestsAt p b
-tests-at p b =
+pub tests-at : (k : Price) → TestsAt k
+tests-at k =
+    let sum : k .f * k .em + k .f * k .en ≡ k .f * (k .em + k .en) = omega arith in
+    let twice : 2 * (k .f * k .em) ≡ 2 * k .f * k .em = omega arith in
     record {
-      lone-at = λ s. ltb-same (b * s) (p + p) (b * s) (2 * p) (λ h. omega arith) (λ h. omega arith);
+      lone-at = λ s. ap (ltb (256 * s)) sum;
       side-at = λ s. refl;
-      pair-at = λ s. ltb-same (b * s + p) (2 * p) (b * s) p (λ h. omega arith) (λ h. omega arith);
+      pair-at = λ s. ap (ltb (256 * s + k .f * k .en)) twice;
     }
 
 -- rates that are all multiplied by one number above 0 have the same tests

@@ -48,7 +48,8 @@ pub record Tests : Type 0 where
   pub pair : ℕ → Bool
 
 -- what the merge stores costs less than what it spares: a match and a new entry in merge 1, a match in merges 2 and 3, two matches for a new
--- entry in merge 4; at a price's rates 256 × size is compared with 2P, with P, and for both sizes together with P (`tests-at`)
+-- entry in merge 4. At a price's rates (document 02, S-2; `tests-at`): 256 × size < F × (EM + EN); 256 × size < F × EM; and
+-- 256 × both sizes + F × EN < 2 × F × EM
 abbrev pub testsOf : Rates → Tests
 testsOf r =
     record {
@@ -57,12 +58,12 @@ testsOf r =
       pair = λ s. ltb (r .byte .0 * s + r .fresh .0) (2 * r .kept .0);
     }
 
--- how a look at p ends, with b before it, a after it and c second after it; a merge with the bytes that it fuses. As in document 01, but that
--- "each size is multiplied by 256 before it is compared" (document 02, S-1), which is in the tests:
--- 1. "p is a match, both neighbours new, size < 2P"
--- 2. "p is a match, the one before is new, size < P"
--- 3. "p is a match, the one after is new, size < P"
--- 4. "p and the one after are matches, neither the one before p nor the second after p is new, and the two sizes together < P"
+-- how a look at p ends, with b before it, a after it and c second after it; a merge with the bytes that it fuses. As in document 01, but for what a
+-- merge needs of the sizes, which is in the tests:
+-- 1. "p is a match, both neighbours new"
+-- 2. "p is a match, the one before is new"
+-- 3. "p is a match, the one after is new"
+-- 4. "p and the one after are matches, neither the one before p nor the second after p is new"
 -- 5. "Otherwise p goes to the one after"
 abbrev pub outcomeAt : Tests → Item → Item → Item → Item → Outcome
 outcomeAt t b p a c =
