@@ -1,2 +1,3 @@
 pub mod Choice
 pub mod Path
+pub mod Alone

@@ -4,3 +4,4 @@ pub mod WorkedHolds
 pub mod Giving
 pub mod ScalingHolds
 pub mod FormerHolds
+pub mod LoneHolds

@@ -3,3 +3,4 @@ pub mod Worked
 pub mod Gives
 pub mod Scaling
 pub mod Former
+pub mod Lone

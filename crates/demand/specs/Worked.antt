@@ -36,6 +36,10 @@ inBytes l c n m k = worked (price 10 10 256) l c (256 * n) (256 * m) k
 abbrev pub between : List Record
 between = New 1 ∷ Match 12 0 ∷ Match 60 50 ∷ Match 17 200 ∷ New 1 ∷ []
 
+-- M20 M4 M20
+abbrev pub lone : List Record
+lone = Match 20 0 ∷ Match 4 50 ∷ Match 20 90 ∷ []
+
 -- no match goes on in the store where the one before it ended
 abbrev pub table : List Worked
 table =
@@ -52,7 +56,7 @@ table =
     ∷ worked (price 10 10 256) between (store ∷ keep ∷ keep ∷ keep ∷ store ∷ []) 13312 13312 5
     ∷ worked (price 10 10 384) between (store ∷ store ∷ keep ∷ keep ∷ store ∷ []) 18944 18944 5
     ∷ worked (price 10 10 512) between (store ∷ store ∷ keep ∷ store ∷ store ∷ []) 23296 23296 6
-    ∷ worked (price 1 10 256) (Match 20 0 ∷ Match 4 50 ∷ Match 20 90 ∷ []) (keep ∷ store ∷ keep ∷ []) 6400 7680 3
+    ∷ worked (price 1 10 256) lone (keep ∷ store ∷ keep ∷ []) 6400 7680 3
     ∷ worked (price 10 1 256) (New 5 ∷ Match 19 0 ∷ New 5 ∷ []) (store ∷ keep ∷ store ∷ []) 7936 7936 3
     ∷ worked (price 1 10 256) (Match 6 0 ∷ Match 6 50 ∷ Match 6 90 ∷ []) (store ∷ store ∷ store ∷ []) 4864 4864 4
     ∷ worked (price 12 10 256) (Match 4 0 ∷ Match 4 50 ∷ Match 4 90 ∷ []) (store ∷ store ∷ store ∷ []) 6144 7680 3

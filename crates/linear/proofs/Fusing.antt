@@ -5,7 +5,7 @@ use Prim.Native.Nat.{ℕ, _+_, _≤_}
 use native.Mathlib.Omega.{arith}
 use native.Mathlib.Nat.{add-assoc}
 use mathlib.Core.Path.{_≡_, refl, _∙_, ap}
-use mathlib.Core.Bool.{false}
+use mathlib.Core.Bool.{Bool, true, false}
 use mathlib.Core.List.{List, [], _∷_}
 use lib.ListN.{length}
 use Rattle.rules.specs.Rules.{Item, new, match, neither, size, isNew}
@@ -32,16 +32,19 @@ Tidy (new s ∷ l) = (isNew (first l) ≡ false) × Tidy l
 Tidy (match s ∷ l) = Tidy l
 Tidy (neither s ∷ l) = Tidy l
 
--- `Fuses xs ys`: each new item of ys is the fusion of new items and matches of xs that follow each other, one at least; each other item of ys
--- is one of xs
-pub data Fuses : List Item → List Item → Type 0 where
-  none : Fuses [] []
-  keepMark : {s : ℕ} {xs ys : List Item} → Fuses xs ys → Fuses (neither s ∷ xs) (neither s ∷ ys)
-  keepMatch : {s : ℕ} {xs ys : List Item} → Fuses xs ys → Fuses (match s ∷ xs) (match s ∷ ys)
-  takeNew : {s : ℕ} {xs ys : List Item} → Fuses xs ys → Fuses (new s ∷ xs) (new s ∷ ys)
-  takeMatch : {s : ℕ} {xs ys : List Item} → Fuses xs ys → Fuses (match s ∷ xs) (new s ∷ ys)
-  moreNew : {a b : ℕ} {xs ys : List Item} → Fuses xs (new b ∷ ys) → Fuses (new a ∷ xs) (new (a + b) ∷ ys)
-  moreMatch : {a b : ℕ} {xs ys : List Item} → Fuses xs (new b ∷ ys) → Fuses (match a ∷ xs) (new (a + b) ∷ ys)
+-- each new item of ys is one of xs, or the fusion of two or more new items and matches of xs that follow each other; each other item of ys is one
+-- of xs. Where j is true the first item of ys may be a match made new by itself, as it is to join one before it
+pub data Fused : Bool → List Item → List Item → Type 0 where
+  none : Fused false [] []
+  keepMark : {s : ℕ} {xs ys : List Item} → Fused false xs ys → Fused false (neither s ∷ xs) (neither s ∷ ys)
+  keepMatch : {s : ℕ} {xs ys : List Item} → Fused false xs ys → Fused false (match s ∷ xs) (match s ∷ ys)
+  takeNew : {j : Bool} {s : ℕ} {xs ys : List Item} → Fused false xs ys → Fused j (new s ∷ xs) (new s ∷ ys)
+  takeMatch : {s : ℕ} {xs ys : List Item} → Fused false xs ys → Fused true (match s ∷ xs) (new s ∷ ys)
+  moreNew : {j : Bool} {a b : ℕ} {xs ys : List Item} → Fused true xs (new b ∷ ys) → Fused j (new a ∷ xs) (new (a + b) ∷ ys)
+  moreMatch : {j : Bool} {a b : ℕ} {xs ys : List Item} → Fused true xs (new b ∷ ys) → Fused j (match a ∷ xs) (new (a + b) ∷ ys)
+
+abbrev pub Fuses : List Item → List Item → Type 0
+Fuses xs ys = Fused false xs ys
 
 abbrev pub weigh : (Item → ℕ) → List Item → ℕ
 weigh w [] = 0
@@ -76,7 +79,7 @@ pub record Turns (w : Item → ℕ) (k : ℕ) (x y : List Item) : Type 0 where
   pub kept : bytes y ≡ bytes x
   pub lower : weigh w y + k ≤ weigh w x
 
-pub fuses-cons : {i : Item} {xs x y : List Item} → ((zs : List Item) → Fuses zs x → Fuses zs y) → Fuses xs (i ∷ x) → Fuses xs (i ∷ y)
+pub fuses-cons : {j : Bool} {i : Item} {xs x y : List Item} → ((zs : List Item) → Fuses zs x → Fuses zs y) → Fused j xs (i ∷ x) → Fused j xs (i ∷ y)
 fuses-cons f (keepMark d) = keepMark (f _ d)
 fuses-cons f (keepMatch d) = keepMatch (f _ d)
 fuses-cons f (takeNew d) = takeNew (f _ d)
@@ -128,23 +131,29 @@ turns-trans f g =
 
 -- ---- neighbours fused
 
-fuse-new : {a b : ℕ} {xs ys : List Item} → Fuses xs (new a ∷ new b ∷ ys) → Fuses xs (new (a + b) ∷ ys)
-fuse-new (takeNew d) = moreNew d
-fuse-new (takeMatch d) = moreMatch d
+-- a new item may join one before it
+joinable : {b : ℕ} {xs ys : List Item} → Fuses xs (new b ∷ ys) → Fused true xs (new b ∷ ys)
+joinable (takeNew d) = takeNew d
+joinable (moreNew d) = moreNew d
+joinable (moreMatch d) = moreMatch d
+
+fuse-new : {j : Bool} {a b : ℕ} {xs ys : List Item} → Fused j xs (new a ∷ new b ∷ ys) → Fused j xs (new (a + b) ∷ ys)
+fuse-new (takeNew d) = moreNew (joinable d)
+fuse-new (takeMatch d) = moreMatch (joinable d)
 fuse-new (moreNew d) = rw add-assoc (moreNew (fuse-new d))
 fuse-new (moreMatch d) = rw add-assoc (moreMatch (fuse-new d))
 
-turn-new : {b : ℕ} {xs ys : List Item} → Fuses xs (match b ∷ ys) → Fuses xs (new b ∷ ys)
-turn-new (keepMatch d) = takeMatch d
-
 pub fuse-after : {b c : ℕ} {xs ys : List Item} → Fuses xs (match b ∷ new c ∷ ys) → Fuses xs (new (b + c) ∷ ys)
-fuse-after d = fuse-new (turn-new d)
+fuse-after (keepMatch d) = moreMatch (joinable d)
 
-pub fuse-before : {a b : ℕ} {xs ys : List Item} → Fuses xs (new a ∷ match b ∷ ys) → Fuses xs (new (a + b) ∷ ys)
-fuse-before d = fuse-new (fuses-cons (λ zs. turn-new) d)
+pub fuse-before : {j : Bool} {a b : ℕ} {xs ys : List Item} → Fused j xs (new a ∷ match b ∷ ys) → Fused j xs (new (a + b) ∷ ys)
+fuse-before (takeNew (keepMatch d)) = moreNew (takeMatch d)
+fuse-before (takeMatch (keepMatch d)) = moreMatch (takeMatch d)
+fuse-before (moreNew d) = rw add-assoc (moreNew (fuse-before d))
+fuse-before (moreMatch d) = rw add-assoc (moreMatch (fuse-before d))
 
 pub fuse-pair : {b c : ℕ} {xs ys : List Item} → Fuses xs (match b ∷ match c ∷ ys) → Fuses xs (new (b + c) ∷ ys)
-fuse-pair d = fuse-before (turn-new d)
+fuse-pair (keepMatch (keepMatch d)) = moreMatch (takeMatch d)
 
 pub fuse-both : {a b c : ℕ} {xs ys : List Item} → Fuses xs (new a ∷ match b ∷ new c ∷ ys) → Fuses xs (new (a + b + c) ∷ ys)
 fuse-both d = fuse-new (fuse-before d)

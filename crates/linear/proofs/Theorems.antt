@@ -4,7 +4,7 @@
 use Prim.Native.Nat.{ℕ, suc, _+_, _-_, _*_, _≤_}
 use native.Mathlib.Omega.{arith}
 use mathlib.Core.Path.{_≡_, refl, _∙_, ap}
-use mathlib.Core.Bool.{false}
+use mathlib.Core.Bool.{true, false}
 use mathlib.Core.List.{List, [], _∷_}
 use lib.ListN.{length}
 use borrow.Author.Tests.{ltb-true, lt-ltb}
@@ -15,12 +15,14 @@ use Rattle.format.specs.WellFormed.{Sized, NotNew, Apart}
 use Rattle.price.specs.declared.Rates.{Rates}
 use Rattle.price.specs.Price.{cost}
 use Rattle.choice.specs.Choice.{IsChoice, listOf}
+use Rattle.choice.specs.Alone.{storesAlone}
 use Rattle.rules.specs.Rules.{Item, new, match, neither, isNew, testsOf}
 use Rattle.linear.specs.Pass.{first, items, bytes, Look, lookAt, mergeIn, mergesIn, joined, pass, passOutcomes, passLooks, passItems, passChoice}
 use Rattle.linear.proofs.Fusing.{Starts, Tidy, weigh}
 use Rattle.linear.proofs.Looks.{Pays, seen, look-turns}
 use Rattle.linear.proofs.Running.{Passes, passes}
 use Rattle.linear.proofs.Recovering.{Recovered, recovered}
+use Rattle.linear.proofs.Alone.{none-alone}
 
 -- what an item adds to the cost; a mark weighs as a match
 abbrev pub priceOf : Rates → Item → ℕ
@@ -111,3 +113,7 @@ module _ (r : Rates) (rs : List Record) (sized : Sized rs) (apart : Apart rs) wh
         listed = pass-recovered .listed;
         lower = omega (arith, merges-lower);
       }
+
+  -- it stores no match alone
+  pub pass-none-alone : storesAlone true rs (passChoice r rs) ≡ false
+  pass-none-alone = none-alone true rs (passItems r rs) tt sized (pass-of r rs apart .fuses)
