@@ -36,11 +36,12 @@ number-requires-3 c κs = search needs
 
 returns-2 : tie.Need-returns-2
 returns-2 c =
-    rw
-    (eq-eqb _ 6 (c .before .before .before .before .before .before .before .before .before .if1 .left),
-    c .before .before .before .before .before .before .number .ensures,
-    c .before .before .before .number2 .ensures,
-    c .number3 .ensures)
+    rw (
+      eq-eqb _ 6 (c .before .before .before .before .before .before .before .before .before .if1 .left),
+      c .before .before .before .before .before .before .number .ensures,
+      c .before .before .before .number2 .ensures,
+      c .number3 .ensures,
+    )
 
 pub price-in-spec : {M : Type 1} → statement M
 price-in-spec =
