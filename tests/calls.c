@@ -11,7 +11,7 @@
 
 #include "controller.h"
 
-#define CASES 249
+#define CASES 251
 #define FILL 0xA5
 #define AREA 256
 
@@ -562,6 +562,14 @@ static void test_greatest_lists(void)
     expect("partition", "at the greatest price all is stored", answered(partition(E_MOST, E_MOST, F_MOST, most, length, bytes, VERSION_MOST, bytes, VERSION_MOST,
         bits, RECORDS_MOST, out, length, stored, VERSION_MOST, answer, sizeof answer),
         (struct values){ .cost = 16711425 + UINT64_C(4294967296), .entries = 1, .stored = VERSION_MOST }) && memcmp(stored, bytes, VERSION_MOST) == 0);
+    fill_areas();
+    expect("partition", "with the dearest matches all is stored", answered(partition(1, E_MOST, F_MOST, most, length, bytes, VERSION_MOST, bytes,
+        VERSION_MOST, bits, RECORDS_MOST, out, length, stored, VERSION_MOST, answer, sizeof answer),
+        (struct values){ .cost = 65535 + UINT64_C(4294967296), .entries = 1, .stored = VERSION_MOST }));
+    fill_areas();
+    expect("partition", "with the dearest new entries all is kept", answered(partition(E_MOST, 1, F_MOST, most, length, bytes, VERSION_MOST, bytes,
+        VERSION_MOST, bits, RECORDS_MOST, out, length, stored, VERSION_MOST, answer, sizeof answer),
+        (struct values){ .cost = 4096 * 65535, .entries = 4096 }) && memcmp(out, most, length) == 0);
     fill_areas();
     expect("pass", "4,096 records", answered(pass(1, 1, 1, most, length, bytes, VERSION_MOST, bytes, VERSION_MOST, bits, RECORDS_MOST, out, length,
         stored, VERSION_MOST, answer, sizeof answer), (struct values){ .cost = 4096, .entries = 4096, .looks = 4096 }));

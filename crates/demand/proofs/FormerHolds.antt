@@ -31,10 +31,10 @@ module _ (e f : ℕ) where
   cost-former l = rw (← entries l) (omega arith)
 
   tests-former : testsOf (ratesOf (samePrice e f)) ≡ formerTests e f
-  tests-former = λ i. record { lone = λ s. lone s i; side = λ s. ltb (256 * s) (f * e); pair = λ s. pair s i }
+  tests-former = λ i. record { both = λ s. both s i; side = λ s. ltb (256 * s) (f * e); pair = λ s. pair s i }
     where
-      lone : (s : ℕ) → ltb (256 * s) (f * e + f * e) ≡ ltb (256 * s) (2 * (f * e))
-      lone s = let twice : f * e + f * e ≡ 2 * (f * e) = omega arith in ap (ltb (256 * s)) twice
+      both : (s : ℕ) → ltb (256 * s) (f * e + f * e) ≡ ltb (256 * s) (2 * (f * e))
+      both s = let twice : f * e + f * e ≡ 2 * (f * e) = omega arith in ap (ltb (256 * s)) twice
 
       pair : (s : ℕ) → ltb (256 * s + f * e) (2 * (f * e)) ≡ ltb (256 * s) (f * e)
       pair s = ltb-same (256 * s + f * e) (2 * (f * e)) (256 * s) (f * e) (λ h. omega arith) (λ h. omega arith)

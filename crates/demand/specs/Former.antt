@@ -42,7 +42,7 @@ formerLeast e f rs = firstOf (λ c. formerCost e f (listOf rs c)) (choices rs)
 
 -- 256 × size was compared with 2P in merge 1, with P in merges 2 and 3, and for both sizes together with P in merge 4
 abbrev pub formerTests : ℕ → ℕ → Tests
-formerTests e f = record { lone = λ s. ltb (256 * s) (2 * (f * e)); side = λ s. ltb (256 * s) (f * e); pair = λ s. ltb (256 * s) (f * e) }
+formerTests e f = record { both = λ s. ltb (256 * s) (2 * (f * e)); side = λ s. ltb (256 * s) (f * e); pair = λ s. ltb (256 * s) (f * e) }
 
 -- the pass with these: how each look ended, and the choice
 abbrev pub formerOutcomes : ℕ → ℕ → List Record → List Outcome

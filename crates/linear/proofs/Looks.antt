@@ -14,8 +14,8 @@ use Rattle.linear.proofs.Fusing.{Starts, Tidy, starts-cons, Turns, turn
 
 -- the tests are such that a merge lowers the weight, and merge 1 takes what merge 2 takes
 pub record Pays (t : Tests) (w : Item → ℕ) : Type 0 where
-  pub wider : (s : ℕ) → t .side s ≡ true → t .lone s ≡ true
-  pub both-pays : (a b c : ℕ) → t .lone b ≡ true → w (new (a + b + c)) < w (new a) + (w (match b) + w (new c))
+  pub wider : (s : ℕ) → t .side s ≡ true → t .both s ≡ true
+  pub both-pays : (a b c : ℕ) → t .both b ≡ true → w (new (a + b + c)) < w (new a) + (w (match b) + w (new c))
   pub before-pays : (a b : ℕ) → t .side b ≡ true → w (new (a + b)) < w (new a) + w (match b)
   pub after-pays : (b c : ℕ) → t .side b ≡ true → w (new (b + c)) < w (match b) + w (new c)
   pub pair-pays : (b c : ℕ) → t .pair (b + c) ≡ true → w (new (b + c)) < w (match b) + w (match c)
@@ -23,7 +23,7 @@ pub record Pays (t : Tests) (w : Item → ℕ) : Type 0 where
 -- `Seen t l p r s`: what a look at p, with l before it and r after it, is, and which tests passed
 pub data Seen (t : Tests) : List Item → Item → List Item → Look → Type 0 where
   advances : {l : List Item} {p : Item} {r : List Item} → Seen t l p r (ended Advance l p r)
-  joins-both : {a b c : ℕ} {l r : List Item} → t .lone b ≡ true
+  joins-both : {a b c : ℕ} {l r : List Item} → t .both b ≡ true
       → Seen t (new a ∷ l) (match b) (new c ∷ r) (ended (Merged (Both (a + b + c))) (new a ∷ l) (match b) (new c ∷ r))
   joins-before : {a b : ℕ} {l r : List Item} → t .side b ≡ true → isNew (first r) ≡ false
       → Seen t (new a ∷ l) (match b) r (ended (Merged (Before (a + b))) (new a ∷ l) (match b) r)
@@ -43,7 +43,7 @@ tidy-tail (match a) r h = h
 tidy-tail (neither a) r h = h
 
 module _ (t : Tests) (w : Item → ℕ) (pays : Pays t w) where
-  turns-both : (a b c : ℕ) (r : List Item) → t .lone b ≡ true → Turns w 1 (new a ∷ match b ∷ new c ∷ r) (new (a + b + c) ∷ r)
+  turns-both : (a b c : ℕ) (r : List Item) → t .both b ≡ true → Turns w 1 (new a ∷ match b ∷ new c ∷ r) (new (a + b + c) ∷ r)
   turns-both a b c r e =
       record {
         some = λ u. u;
@@ -99,11 +99,11 @@ module _ (t : Tests) (w : Item → ℕ) (pays : Pays t w) where
   seen-before a s l r n true e = joins-before e n
   seen-before a s l r n false e = advances
 
-  seen-both : (a s c : ℕ) (l r : List Item) (v u : Bool) → t .lone s ≡ v → t .side s ≡ u
+  seen-both : (a s c : ℕ) (l r : List Item) (v u : Bool) → t .both s ≡ v → t .side s ≡ u
       → Seen t (new a ∷ l) (match s) (new c ∷ r)
       (ended (cond v (Merged (Both (a + s + c))) (cond u (Merged (Before (a + s))) (cond u (Merged (After (s + c))) Advance))) (new a ∷ l) (match s) (new c ∷ r))
   seen-both a s c l r true u e d = joins-both e
-  seen-both a s c l r false true e d = let k : t .lone s ≡ true = pays .wider s d in let z : _≡_ {A = ℕ} 0 1 = cc in absurd (omega arith)
+  seen-both a s c l r false true e d = let k : t .both s ≡ true = pays .wider s d in let z : _≡_ {A = ℕ} 0 1 = cc in absurd (omega arith)
   seen-both a s c l r false false e d = advances
 
   seen-after : (x : Item) (s c : ℕ) (l r : List Item) → isNew x ≡ false → (v : Bool) → t .side s ≡ v
@@ -121,7 +121,7 @@ module _ (t : Tests) (w : Item → ℕ) (pays : Pays t w) where
   seen l (neither s) r h = advances
   seen [] (match s) r h = absurd h
   seen (new a ∷ l) (match s) [] h = seen-before a s l [] refl (t .side s) refl
-  seen (new a ∷ l) (match s) (new c ∷ r) h = seen-both a s c l r (t .lone s) (t .side s) refl refl
+  seen (new a ∷ l) (match s) (new c ∷ r) h = seen-both a s c l r (t .both s) (t .side s) refl refl
   seen (new a ∷ l) (match s) (match c ∷ r) h = seen-before a s l (match c ∷ r) refl (t .side s) refl
   seen (new a ∷ l) (match s) (neither c ∷ r) h = seen-before a s l (neither c ∷ r) refl (t .side s) refl
   seen (match a ∷ l) (match s) [] h = advances

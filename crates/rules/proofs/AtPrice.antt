@@ -14,7 +14,7 @@ use Rattle.rules.specs.Rules.{testsOf}
 
 -- "Merge 1 needs 256 × size < F × (EM + EN). Merges 2 and 3 need 256 × size < F × EM. Merge 4 needs 256 × both sizes + F × EN < 2 × F × EM"
 pub record TestsAt (k : Price) : Type 0 where
-  pub lone-at : (s : ℕ) → testsOf (ratesOf k) .lone s ≡ ltb (256 * s) (k .f * (k .em + k .en))
+  pub both-at : (s : ℕ) → testsOf (ratesOf k) .both s ≡ ltb (256 * s) (k .f * (k .em + k .en))
   pub side-at : (s : ℕ) → testsOf (ratesOf k) .side s ≡ ltb (256 * s) (k .f * k .em)
   pub pair-at : (s : ℕ) → testsOf (ratesOf k) .pair s ≡ ltb (256 * s + k .f * k .en) (2 * k .f * k .em)
 
@@ -23,17 +23,17 @@ tests-at k =
     let sum : k .f * k .em + k .f * k .en ≡ k .f * (k .em + k .en) = omega arith in
     let twice : 2 * (k .f * k .em) ≡ 2 * k .f * k .em = omega arith in
     record {
-      lone-at = λ s. ap (ltb (256 * s)) sum;
+      both-at = λ s. ap (ltb (256 * s)) sum;
       side-at = λ s. refl;
       pair-at = λ s. ap (ltb (256 * s + k .f * k .en)) twice;
     }
 
 -- rates that are all multiplied by one number above 0 have the same tests
 pub tests-scaled : (k : ℕ) → 0 < k → (r : Rates) → testsOf (scaled k r) ≡ testsOf r
-tests-scaled k above r = λ i. record { lone = λ s. lone s i; side = λ s. side s i; pair = λ s. pair s i }
+tests-scaled k above r = λ i. record { both = λ s. both s i; side = λ s. side s i; pair = λ s. pair s i }
   where
-    lone : (s : ℕ) → testsOf (scaled k r) .lone s ≡ testsOf r .lone s
-    lone s = ltb-scaled k above (k * r .byte .0 * s) (k * r .kept .0 + k * r .fresh .0) (r .byte .0 * s) (r .kept .0 + r .fresh .0) (omega arith) (omega arith)
+    both : (s : ℕ) → testsOf (scaled k r) .both s ≡ testsOf r .both s
+    both s = ltb-scaled k above (k * r .byte .0 * s) (k * r .kept .0 + k * r .fresh .0) (r .byte .0 * s) (r .kept .0 + r .fresh .0) (omega arith) (omega arith)
 
     side : (s : ℕ) → testsOf (scaled k r) .side s ≡ testsOf r .side s
     side s = ltb-scaled k above (k * r .byte .0 * s) (k * r .kept .0) (r .byte .0 * s) (r .kept .0) (omega arith) refl

@@ -50,7 +50,7 @@ item-of-one k s e = ap (λ (j : ℕ). itemOf j s) e
 -- the rules by kinds
 abbrev pub outcomeBy : Tests → ℕ → ℕ → ℕ → ℕ → ℕ → ℕ → Item → Outcome
 outcomeBy t kb sb k s ka sa c =
-    cond (eqb k 1 && eqb kb 0 && eqb ka 0 && t .lone s) (Merged (Both (sb + s + sa)))
+    cond (eqb k 1 && eqb kb 0 && eqb ka 0 && t .both s) (Merged (Both (sb + s + sa)))
     (cond (eqb k 1 && eqb kb 0 && t .side s) (Merged (Before (sb + s)))
     (cond (eqb k 1 && eqb ka 0 && t .side s) (Merged (After (s + sa)))
     (cond (eqb k 1 && eqb ka 1 && not (eqb kb 0) && not (isNew c) && t .pair (s + sa)) (Merged (Pair (s + sa)))

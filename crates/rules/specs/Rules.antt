@@ -41,9 +41,9 @@ isMatch (neither s) = false
 
 -- ---- a look: "the first that applies is done"
 
--- the sizes that the merges take: `lone` in merge 1, `side` in merges 2 and 3, `pair` in merge 4, of both sizes together
+-- the sizes that the merges take: `both` in merge 1, `side` in merges 2 and 3, `pair` in merge 4, of both sizes together
 pub record Tests : Type 0 where
-  pub lone : ℕ → Bool
+  pub both : ℕ → Bool
   pub side : ℕ → Bool
   pub pair : ℕ → Bool
 
@@ -53,7 +53,7 @@ pub record Tests : Type 0 where
 abbrev pub testsOf : Rates → Tests
 testsOf r =
     record {
-      lone = λ s. ltb (r .byte .0 * s) (r .kept .0 + r .fresh .0);
+      both = λ s. ltb (r .byte .0 * s) (r .kept .0 + r .fresh .0);
       side = λ s. ltb (r .byte .0 * s) (r .kept .0);
       pair = λ s. ltb (r .byte .0 * s + r .fresh .0) (2 * r .kept .0);
     }
@@ -67,7 +67,7 @@ testsOf r =
 -- 5. "Otherwise p goes to the one after"
 abbrev pub outcomeAt : Tests → Item → Item → Item → Item → Outcome
 outcomeAt t b p a c =
-    cond (isMatch p && isNew b && isNew a && t .lone (size p)) (Merged (Both (size b + size p + size a)))
+    cond (isMatch p && isNew b && isNew a && t .both (size p)) (Merged (Both (size b + size p + size a)))
     (cond (isMatch p && isNew b && t .side (size p)) (Merged (Before (size b + size p)))
     (cond (isMatch p && isNew a && t .side (size p)) (Merged (After (size p + size a)))
     (cond (isMatch p && isMatch a && not (isNew b) && not (isNew c) && t .pair (size p + size a)) (Merged (Pair (size p + size a)))
