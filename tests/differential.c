@@ -1148,8 +1148,8 @@ static void print_table(void)
     printf("; in them, matches with no new record beside them: %" PRIu64 " stored, %" PRIu64 " kept\n", lone_stored, lone_kept);
 }
 
-/* How many required columns and kinds of price were never reached. */
-static int missing(void)
+/* How many kinds of price were never reached, a lone match that is worth storing among them. */
+static int missing_prices(void)
 {
     int count = 0;
     for (int i = 0; i < ORDERS; i++)
@@ -1157,15 +1157,22 @@ static int missing(void)
             printf("differential: no partition was accepted at %s\n", order_name[i]);
             count++;
         }
-    if (lone_stored == 0) {
-        printf("differential: no lone match was stored\n");
-        count++;
-    }
     for (int i = 0; i < FACTORS; i++)
         if (factors[i].accepted == 0) {
             printf("differential: no partition was accepted at F %" PRIu32 "\n", factors[i].f);
             count++;
         }
+    if (lone_stored == 0) {
+        printf("differential: no lone match was stored\n");
+        count++;
+    }
+    return count;
+}
+
+/* How many required columns were never reached. */
+static int missing_columns(void)
+{
+    int count = 0;
     for (int call = 0; call < CALLS; call++)
         for (int column = 0; column < COLUMNS; column++)
             if (required[call][column] == 'x' && reached[call][column] == 0) {
@@ -1208,7 +1215,7 @@ int main(int argc, char **argv)
         puts("differential: the long store was written to");
         return 1;
     }
-    if (missing() > 0)
+    if (missing_prices() + missing_columns() > 0)
         return 1;
     printf("differential: %" PRIu64 " calls compared, 0 differences\n", calls);
     return 0;
