@@ -2,14 +2,14 @@
 -- Assumes nothing.
 use Prim.Native.Nat.{ℕ, _+_, _*_}
 use native.Mathlib.Omega.{arith}
-use mathlib.Core.Path.{_≡_, refl, sym, _∙_, ap, ap₂}
+use mathlib.Core.Path.{_≡_, refl, ap}
 use mathlib.Core.Bool.{Bool, true, false, _&&_}
 use mathlib.Core.List.{List}
 use lib.Dec.{leb, ltb}
 use lib.ListN.{length}
 use Rattle.format.specs.declared.Record.{Record}
 use Rattle.format.specs.Record.{recordsOf}
-use Rattle.price.specs.Price.{priceFits, ratesOf, cost}
+use Rattle.price.specs.Price.{ratesOf, cost}
 use Rattle.price.proofs.Bounds.{entries}
 use Rattle.price.proofs.Scaling.{ltb-same}
 use Rattle.measure.specs.Measure.{measureRuling}
@@ -17,7 +17,7 @@ use Rattle.choice.specs.Choice.{listOf, costOf, least}
 use Rattle.choice.proofs.Path.{choices-cong}
 use Rattle.rules.specs.Rules.{Tests, testsOf}
 use Rattle.linear.specs.Pass.{items, pass, endItems, passOutcomes, choiceOf, passChoice}
-use Rattle.demand.specs.Former.{formerFits, formerCost, formerLeast, formerTests, formerOutcomes, formerPass, samePrice, FormerAnswers}
+use Rattle.demand.specs.Former.{formerCost, formerLeast, formerTests, formerOutcomes, formerPass, samePrice, FormerAnswers}
 use Rattle.demand.proofs.Giving.{measures-given, gives-of-decided}
 
 -- a range asked for twice is asked for

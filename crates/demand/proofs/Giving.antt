@@ -5,7 +5,6 @@ use mathlib.Core.Path.{_≡_, _∙_, ap, ap₂}
 use mathlib.Core.List.{List}
 use Rattle.format.specs.declared.Record.{Record}
 use Rattle.format.specs.declared.Ruling.{Ruling}
-use Rattle.format.specs.declared.Figures.{Figures}
 use Rattle.format.specs.Refusal.{answer}
 use Rattle.format.specs.Record.{recordsOf}
 use Rattle.price.specs.declared.Rates.{Rates}

@@ -1,13 +1,12 @@
 -- The pass stores no match alone: a merge makes one item of two or more.
 -- Assumes nothing.
 use Prim.Native.Nat.{ℕ}
-use mathlib.Core.Path.{_≡_, refl, ap₂}
-use mathlib.Core.Bool.{Bool, true, false, _&&_, _||_}
+use mathlib.Core.Path.{_≡_, refl}
+use mathlib.Core.Bool.{Bool, true, false}
 use mathlib.Core.List.{List, [], _∷_}
 use Rattle.format.specs.declared.Record.{Record}
 use Rattle.format.specs.declared.Record.the-variants.{New, Match}
 use Rattle.format.specs.WellFormed.{Sized}
-use Rattle.choice.specs.Choice.{Bit}
 use Rattle.choice.specs.Alone.{firstKept, storesAlone}
 use Rattle.rules.specs.Rules.{Item, new, match}
 use Rattle.rules.proofs.ByKind.{and-false}

@@ -4,7 +4,6 @@
 use Prim.Native.Nat.{ℕ, _+_, _*_, _<_}
 use native.Mathlib.Omega.{arith}
 use mathlib.Core.Path.{_≡_, refl, ap}
-use mathlib.Core.Bool.{Bool}
 use lib.Dec.{ltb}
 use Rattle.price.specs.declared.Price.{Price}
 use Rattle.price.specs.declared.Rates.{Rates}
