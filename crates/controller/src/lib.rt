@@ -1,4 +1,4 @@
-// The calls of document 01 for a controller in C: numbers, byte areas, and an answer area whose first 32 bytes they fill.
+// The calls of documents 01 and 02 for a controller in C: numbers, byte areas, and an answer area whose first 32 bytes they fill.
 //
 // Nothing is decided here. An answer area under 32 bytes gets 9 before the call is made, and nothing is written.
 ghost use mathlib.Core.Path.{_≡_};
@@ -6,6 +6,7 @@ ghost use Rattle.area.specs.Area.{areas};
 ghost use Rattle.measure.specs.Measure.{measured};
 ghost use Rattle.show.specs.Check.{checked};
 ghost use Rattle.rebuild.specs.Rebuild.{rebuildAnswer, rebuildArea};
+ghost use Rattle.compare.specs.Compare.{compared};
 ghost use Rattle.answer.specs.Layout.{Answered, lent};
 ghost use Rattle.controller.specs.Calls.{PartitionGiven, PassGiven};
 use price::Price;
@@ -114,4 +115,25 @@ pub extern "C" fn check(list: &[u8], block: &[u8], store: &[u8], k: u32, answer:
         return 9;
     }
     answer::give(show::check(list, block, store, k), answer)
+}
+
+// Compare.
+#[no_mangle]
+pub extern "C" fn compare<'a>(
+    first: &[u8],
+    second: &[u8],
+    first_block: &'a [u8],
+    second_block: &'a [u8],
+    store: &'a [u8],
+    answer: &mut [u8],
+) -> u32
+    ensures { λ r. ⌜ Answered (compared (now (first .entry)) (now (second .entry)) (now («first_block» .entry)) (now («second_block» .entry)) (now (store .entry))) (now (answer .entry)) r (now (answer .exit)) ⌝ }
+{
+    if answer.len() < 32 {
+        return 9;
+    }
+    answer::give(
+        compare::compare(first, second, first_block, second_block, store),
+        answer,
+    )
 }

@@ -5,3 +5,4 @@ pub mod Giving
 pub mod ScalingHolds
 pub mod FormerHolds
 pub mod LoneHolds
+pub mod ComparingHolds

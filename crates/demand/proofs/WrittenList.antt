@@ -25,6 +25,7 @@ use Rattle.choice.proofs.Least.{again-keeps, again-list}
 use Rattle.choice.proofs.Lists.{length-list, well-formed-list}
 use Rattle.admit.specs.Admit.{partitionRuling, LongEnough}
 use Rattle.admit.proofs.Admitting.{Sound, fine-of-written}
+use Rattle.show.specs.Check.{inputsRuling}
 use Rattle.rebuild.specs.Rebuild.{rebuildRuling}
 use Rattle.show.proofs.Accepting.{inputs-written}
 use Rattle.rebuild.proofs.Accepting.{rebuild-fine}
@@ -64,10 +65,13 @@ module _ {price : Price} {list v st : List ℕ} {c a b : ℕ} (s : Sound price l
   pub rebuilt-written : rebuilt (listOf (recordsOf list) d) (blockOf (listOf (recordsOf list) d) v) st ≡ v
   rebuilt-written = rebuilt-block st (listOf (recordsOf list) d) v (well-formed-written .agrees)
 
+  pub inputs-accepted : inputsRuling (encode (listOf (recordsOf list) d)) (blockOf (listOf (recordsOf list) d) v) st ≡ Fine
+  inputs-accepted = inputs-written (listOf (recordsOf list) d) (blockOf (listOf (recordsOf list) d) v) st count-written (s .store-most) readable-written
+
   pub rebuild-accepts : (out : List ℕ) → length v ≤ length out → rebuildRuling (encode (listOf (recordsOf list) d)) (blockOf (listOf (recordsOf list) d) v) st out ≡ Fine
   rebuild-accepts out room =
       let l = listOf (recordsOf list) d in
-      rebuild-fine (encode l) (blockOf l v) st out (inputs-written l (blockOf l v) st count-written (s .store-most) readable-written)
+      rebuild-fine (encode l) (blockOf l v) st out inputs-accepted
       (rw (records-encode l, whole-written) room)
 
   -- handed to partition again, it is accepted

@@ -4,3 +4,4 @@ pub mod Gives
 pub mod Scaling
 pub mod Former
 pub mod Lone
+pub mod Comparing

@@ -27,6 +27,10 @@ inside-agrees st [] v h = tt
 inside-agrees st (New s ∷ l) v h = inside-agrees st l (drop s v) (h .1)
 inside-agrees st (Match s a ∷ l) v h = (h .1, inside-agrees st l (drop s v) (h .3))
 
+pub inside-rest : (r : Record) (l : List Record) (st : List ℕ) → Inside st (r ∷ l) → Inside st l
+inside-rest (New s) l st h = h
+inside-rest (Match s a) l st h = h .1
+
 pub rebuilt-block : (st : List ℕ) (l : List Record) (v : List ℕ) → Agrees st l v → rebuilt l (blockOf l v) st ≡ v
 rebuilt-block st [] v h = sym h
 rebuilt-block st (New s ∷ l) v h =
@@ -51,6 +55,16 @@ length-rebuilt (Match s a ∷ l) b st h k =
 abbrev pub bytesIn : List ℕ → List ℕ → Part → List ℕ
 bytesIn b st (ofBlock a n) = take n (drop a b)
 bytesIn b st (ofStore a n) = take n (drop a st)
+
+-- what a list rebuilds is what its first record stands for, where so many stored bytes come before it, and what the others rebuild
+pub rebuilt-cons : (r : Record) (l : List Record) (b st : List ℕ) (used : ℕ)
+    → rebuilt (r ∷ l) (drop used b) st ≡ bytesIn b st (partOf used r) ++ rebuilt l (drop (used + stored (r ∷ [])) b) st
+rebuilt-cons (New s) l b st used =
+    let e : used + s ≡ used + (s + 0) = omega arith in
+    ap (λ (x : List ℕ). take s (drop used b) ++ rebuilt l x st) (drop-drop s used b ∙ ap (λ (k : ℕ). drop k b) e)
+rebuilt-cons (Match s a) l b st used =
+    let e : used ≡ used + 0 = omega arith in
+    ap (λ (k : ℕ). take s (drop a st) ++ rebuilt l (drop k b) st) e
 
 -- what record k stands for is what stands at its offset in the version
 pub part-rebuilt : (l : List Record) (b st : List ℕ) (k : ℕ) → Inside st l → stored l ≤ length b → k < length l

@@ -49,6 +49,10 @@ answer (Stop r) x = Refused r
 abbrev pub lengthOnly : ℕ → Figures
 lengthOnly n = record { cost = 0; entries = 0; stored = 0; looks = 0; whole = n }
 
+-- figures that give entries alone: a number of records, or 1 for yes and 0 for no
+abbrev pub entriesOnly : ℕ → Figures
+entriesOnly n = record { cost = 0; entries = n; stored = 0; looks = 0; whole = 0 }
+
 -- the call is accepted
 abbrev pub Accepts : Answer → Type 0
 Accepts (Accepted x) = Unit {0}

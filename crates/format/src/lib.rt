@@ -5,7 +5,7 @@
 ghost use mathlib.Core.Path.{_≡_};
 ghost use Prim.Native.Nat.{_+_, _*_, _≤_, _<_};
 ghost use lib.ListN.{length};
-ghost use Rattle.format.specs.Refusal.{number, refuse, lengthOnly, figuresIn};
+ghost use Rattle.format.specs.Refusal.{number, refuse, lengthOnly, entriesOnly, figuresIn};
 ghost use Rattle.format.specs.Record.{wordAt, rowAt, recordOf, wellFormed, listFits};
 
 // What is at fault, in the order of the numbers 1 to 11 (`number`).
@@ -101,6 +101,19 @@ pub fn length_only(whole: u32) -> Answer
         stored: 0,
         looks: 0,
         whole,
+    })
+}
+
+// The answer of an accepted call that gives entries and no other figure.
+pub fn entries_only(entries: u32) -> Answer
+    ensures { λ r. ⌜ r ≡ Answer.Accepted (entriesOnly entries) ⌝ }
+{
+    Answer::Accepted(Figures {
+        cost: 0,
+        entries,
+        stored: 0,
+        looks: 0,
+        whole: 0,
     })
 }
 

@@ -4,36 +4,18 @@ use Prim.Native.Nat.{ℕ, _+_, _/_, _≤_, _<_}
 use native.Mathlib.Omega.{arith}
 use mathlib.Core.Path.{_≡_, sym, _∙_, ap}
 use mathlib.Core.List.{List, [], _∷_, _++_}
-use lib.ListN.{length, take, drop, length-append}
-use lib.Seq.{drop-drop}
+use lib.ListN.{length, drop, length-append}
 use Rattle.format.specs.declared.Record.{Record}
-use Rattle.format.specs.declared.Record.the-variants.{New, Match}
 use Rattle.format.specs.Record.{rowAt, recordOf, recordsOf, recordsFrom}
 use Rattle.format.specs.Meaning.{stored, rebuilt, partOf}
 use Rattle.format.specs.WellFormed.{Inside}
 use Rattle.format.proofs.Rows.{recordsFrom-next, recordsFrom-none, recordsFrom-all, stored-cons}
-use Rattle.format.proofs.Rebuilding.{bytesIn, length-rebuilt}
+use Rattle.format.proofs.Rebuilding.{bytesIn, rebuilt-cons, length-rebuilt, inside-rest}
 use Rattle.area.specs.Area.{pasted}
 use Rattle.area.proofs.Filling.{Filling, filling-start, filling-put, filling-end, filling-room}
 use Rattle.rebuild.specs.Rebuild.{Ready, filled}
 use Rattle.show.specs.Show.{Lies}
-
-rebuilt-cons : (r : Record) (l : List Record) (b st : List ℕ) (used : ℕ)
-    → rebuilt (r ∷ l) (drop used b) st ≡ bytesIn b st (partOf used r) ++ rebuilt l (drop (used + stored (r ∷ [])) b) st
-rebuilt-cons (New s) l b st used =
-    let e : used + s ≡ used + (s + 0) = omega arith in
-    ap (λ (x : List ℕ). take s (drop used b) ++ rebuilt l x st) (drop-drop s used b ∙ ap (λ (k : ℕ). drop k b) e)
-rebuilt-cons (Match s a) l b st used =
-    let e : used ≡ used + 0 = omega arith in
-    ap (λ (k : ℕ). take s (drop a st) ++ rebuilt l (drop k b) st) e
-
-lies-first : (r : Record) (l : List Record) (b st : List ℕ) (used : ℕ) → Inside st (r ∷ l) → used + stored (r ∷ l) ≡ length b → Lies (partOf used r) b st
-lies-first (New s) l b st used h e = omega arith
-lies-first (Match s a) l b st used h e = h .0
-
-inside-rest : (r : Record) (l : List Record) (st : List ℕ) → Inside st (r ∷ l) → Inside st l
-inside-rest (New s) l st h = h
-inside-rest (Match s a) l st h = h .1
+use Rattle.show.proofs.Lending.{lies-first}
 
 pub record Copied (list block st area₀ area : List ℕ) (n i used out : ℕ) : Type 0 where
   pub inside : Inside st (recordsFrom list n i)

@@ -18,6 +18,11 @@ pub lent-bytes : (r block st : RefT (List ℕ)) (p : Part) → whereOf r ≡ len
 lent-bytes r block st (ofBlock a n) e = ap (λ (w : Where). w .1) e
 lent-bytes r block st (ofStore a n) e = ap (λ (w : Where). w .1) e
 
+-- the part that the first of some records stands for lies in the bytes it is taken from
+pub lies-first : (r : Record) (l : List Record) (b st : List ℕ) (used : ℕ) → Inside st (r ∷ l) → used + stored (r ∷ l) ≡ length b → Lies (partOf used r) b st
+lies-first (New s) l b st used h e = omega arith
+lies-first (Match s a) l b st used h e = h .0
+
 -- the part that record k stands for lies in the bytes it is taken from
 pub lies-at : (l : List Record) (b st : List ℕ) (k : ℕ) → Inside st l → length b ≡ stored l → k < length l → Lies (partAt l k) b st
 lies-at l b st k h e i = lies-shift (getD l k (New 0)) (0 + stored (take k l)) (stored (take k l)) (omega arith) (go 0 l k h (omega arith) i)

@@ -31,3 +31,16 @@ same-is x y false h = go (sameBytes x y) refl
     go : (t : Bool) → sameBytes x y ≡ t → false ≡ t
     go true e = h .1 (eq-of-same x y e)
     go false e = refl
+
+pub same-of-eq : (x y : List ℕ) → x ≡ y → sameBytes x y ≡ true
+same-of-eq x y e = rw e (same-refl y)
+
+pub not-same : (x y : List ℕ) → (x ≡ y → ⊥) → sameBytes x y ≡ false
+not-same x y h = go (sameBytes x y) refl
+  where
+    go : (t : Bool) → sameBytes x y ≡ t → t ≡ false
+    go true e = absurd (h (eq-of-same x y e))
+    go false e = refl
+
+pub same-sym : (x y : List ℕ) → sameBytes x y ≡ sameBytes y x
+same-sym x y = same-is y x (sameBytes x y) (λ e. sym (eq-of-same x y e), λ e. same-of-eq x y (sym e))

@@ -48,7 +48,7 @@ fn stop(fault: Fault, place: u32) -> Ruling
 }
 
 // Whether two stretches hold the same bytes.
-fn same(a: &[u8], b: &[u8]) -> bool
+pub fn same(a: &[u8], b: &[u8]) -> bool
     ensures { λ r. ⌜ r ≡ sameBytes (now (a .entry)) (now (b .entry)) ⌝ }
 {
     check::same(a, b)

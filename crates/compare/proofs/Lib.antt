@@ -1,0 +1,4 @@
+pub mod Prefix
+pub mod Cursors
+pub mod Comparing
+pub mod WorkedHolds

@@ -1,0 +1,120 @@
+-- The laws of compare hold.
+-- Assumes nothing.
+use Prim.Native.Nat.{ℕ, _*_}
+use native.Mathlib.Omega.{arith}
+use mathlib.Core.Path.{_≡_, refl, sym, _∙_, ap}
+use mathlib.Core.Bool.{Bool, true}
+use mathlib.Core.List.{List}
+use lib.Dec.{leb}
+use lib.ListN.{length}
+use Rattle.format.specs.declared.Fault.the-variants.{AreaTooShort}
+use Rattle.format.specs.declared.Record.{Record}
+use Rattle.format.specs.declared.Ruling.{Ruling}
+use Rattle.format.specs.declared.Ruling.the-variants.{Fine, Stop}
+use Rattle.format.specs.declared.Figures.{Figures}
+use Rattle.format.specs.declared.Answer.{Answer}
+use Rattle.format.specs.declared.Answer.the-variants.{Accepted}
+use Rattle.format.specs.Refusal.{need, _then_, answer, Accepts, lengthOnly, figuresIn}
+use Rattle.format.specs.Record.{recordsOf, encode}
+use Rattle.format.specs.Meaning.{whole, blockOf, rebuilt}
+use Rattle.format.proofs.Rulings.{fine-of-then}
+use Rattle.format.proofs.Encoding.{records-encode}
+use Rattle.format.proofs.Rebuilding.{length-rebuilt}
+use Rattle.walk.proofs.Equality.{same-refl, same-of-eq, not-same, same-sym}
+use Rattle.price.specs.declared.Price.{Price}
+use Rattle.price.specs.Price.{ratesOf}
+use Rattle.area.proofs.Filling.{front}
+use Rattle.choice.specs.Choice.{listOf}
+use Rattle.choice.proofs.Least.{least-fits}
+use Rattle.admit.specs.Admit.{partitionRuling}
+use Rattle.admit.proofs.Admitting.{Sound, sound-of-fine}
+use Rattle.writer.specs.Decide.{figures}
+use Rattle.writer.proofs.Deciding.{decided-answer, list-handed-on, block-handed-on}
+use Rattle.show.specs.Check.{inputsRuling}
+use Rattle.show.proofs.Accepting.{readable-of-inputs}
+use Rattle.rebuild.specs.Rebuild.{rebuildRuling}
+use Rattle.compare.specs.Compare.{versionOf, yesOrNo, saysYes, compared}
+use Rattle.compare.proofs.Comparing.{compared-fine}
+use Rattle.call_partition.specs.Partition.{leastOf, Partitioned}
+use Rattle.demand.specs.Demand.{Call, Rebuilding, writtenList, writtenBlock}
+use Rattle.demand.specs.Comparing.{Rebuilds, writtenVersion, Exactly, ComparingLaws}
+use Rattle.demand.proofs.WrittenList.{whole-written, inputs-accepted, rebuilt-written}
+
+fine-of-accepts : (q : Ruling) (x : Figures) → Accepts (answer q x) → q ≡ Fine
+fine-of-accepts Fine x h = refl
+fine-of-accepts (Stop r) x h = absurd h
+
+-- an accepted call of rebuild
+module _ (list block st : List ℕ) (x : Rebuilding) (h : Rebuilds list block st x) where
+  rebuild-fine : rebuildRuling list block st (x .before) ≡ Fine
+  rebuild-fine = fine-of-accepts (rebuildRuling list block st (x .before)) (lengthOnly (whole (recordsOf list))) (rw (h .made .answered) at (h .accepted))
+
+  inputs-fine : inputsRuling list block st ≡ Fine
+  inputs-fine = fine-of-then (inputsRuling list block st) (need (leb (whole (recordsOf list)) (length (x .before))) AreaTooShort 0) rebuild-fine .0
+
+  length-told : figuresIn (x .answer) .whole ≡ length (versionOf list block st)
+  length-told =
+      let readable = readable-of-inputs list block st inputs-fine .1 in
+      ap (λ (a : Answer). figuresIn a .whole) (rw rebuild-fine at (h .made .answered))
+      ∙ sym (length-rebuilt (recordsOf list) block st (readable .inside) (omega (arith, readable .block-fits)))
+
+  written-version : writtenVersion x ≡ versionOf list block st
+  written-version = rw (rw rebuild-fine at (h .made .area-after)) (front (figuresIn (x .answer) .whole) (versionOf list block st) (x .before) length-told)
+
+as-rebuilt : (first second block₁ block₂ st : List ℕ) (x y : Rebuilding) → Rebuilds first block₁ st x → Rebuilds second block₂ st y
+    → Exactly (compared first second block₁ block₂ st) (writtenVersion x ≡ writtenVersion y)
+as-rebuilt first second block₁ block₂ st x y h k =
+    let fine = compared-fine first second block₁ block₂ st (inputs-fine first block₁ st x h) (inputs-fine second block₂ st y k) in
+    let v = written-version first block₁ st x h in
+    let w = written-version second block₂ st y k in
+    record {
+      yes-where = λ e. fine ∙ ap (λ (t : Bool). Accepted (yesOrNo t)) (same-of-eq (versionOf first block₁ st) (versionOf second block₂ st) (sym v ∙ e ∙ w));
+      no-elsewhere = λ d. fine ∙ ap (λ (t : Bool). Accepted (yesOrNo t)) (not-same (versionOf first block₁ st) (versionOf second block₂ st) (λ e. d (v ∙ e ∙ sym w)));
+    }
+
+itself : (list block st : List ℕ) → compared list list block block st ≡ answer (inputsRuling list block st) (yesOrNo true)
+itself list block st = rw (same-refl (versionOf list block st)) (twice (inputsRuling list block st))
+  where
+    twice : (q : Ruling) → answer (q then q) (yesOrNo true) ≡ answer q (yesOrNo true)
+    twice Fine = refl
+    twice (Stop r) = refl
+
+either-order : (first second block₁ block₂ st : List ℕ) → inputsRuling first block₁ st ≡ Fine → inputsRuling second block₂ st ≡ Fine
+    → compared first second block₁ block₂ st ≡ compared second first block₂ block₁ st
+either-order first second block₁ block₂ st e f =
+    compared-fine first second block₁ block₂ st e f
+    ∙ ap (λ (t : Bool). Accepted (yesOrNo t)) (same-sym (versionOf first block₁ st) (versionOf second block₂ st))
+    ∙ sym (compared-fine second first block₂ block₁ st f e)
+
+-- partition's list of the version that rebuild wrote of another
+module _ (price : Price) (handed other block st : List ℕ) (x : Call) (y : Rebuilding) (h : Rebuilds other block st y)
+    (made : Partitioned price handed (writtenVersion y) st (x .before) (x .answer) (x .after)) (accepted : Accepts (x .answer)) where
+  abbrev v : List ℕ
+  v = writtenVersion y
+
+  abbrev l : List Record
+  l = listOf (recordsOf handed) (leastOf price handed)
+
+  fine : partitionRuling price handed v st (x .before) ≡ Fine
+  fine = fine-of-accepts (partitionRuling price handed v st (x .before)) (figures (ratesOf price) l 0) (rw (made .answered) at accepted)
+
+  sound : Sound price handed v st (length (x .before .choice)) (length (x .before .list)) (length (x .before .block))
+  sound = sound-of-fine price handed v st (length (x .before .choice)) (length (x .before .list)) (length (x .before .block)) fine
+
+  list-is : writtenList x ≡ encode l
+  list-is = list-handed-on made fine (ap (λ (a : Answer). 12 * figuresIn a .entries) (decided-answer made fine))
+
+  block-is : writtenBlock x ≡ blockOf l v
+  block-is = block-handed-on made fine (ap (λ (a : Answer). figuresIn a .stored) (decided-answer made fine)) (omega (arith, whole-written sound (leastOf price handed) (least-fits (ratesOf price) (recordsOf handed))))
+
+  version-is : versionOf (encode l) (blockOf l v) st ≡ v
+  version-is = ap (λ (k : List Record). rebuilt k (blockOf l v) st) (records-encode l) ∙ rebuilt-written sound (leastOf price handed) (least-fits (ratesOf price) (recordsOf handed))
+
+  of-partition : compared other (writtenList x) block (writtenBlock x) st ≡ saysYes
+  of-partition =
+      rw (list-is, block-is)
+      (compared-fine other (encode l) block (blockOf l v) st (inputs-fine other block st y h) (inputs-accepted sound (leastOf price handed) (least-fits (ratesOf price) (recordsOf handed)))
+      ∙ ap (λ (t : Bool). Accepted (yesOrNo t)) (same-of-eq (versionOf other block st) (versionOf (encode l) (blockOf l v) st) (sym (written-version other block st y h) ∙ sym version-is)))
+
+pub comparing-laws : ComparingLaws
+comparing-laws = record { as-rebuilt = as-rebuilt; itself = itself; either-order = either-order; of-partition = of-partition }
