@@ -1,16 +1,16 @@
 /* controller.h - the calls of the deposit box for a controller in C.
  *
- * Scope: the lists of docs/SPECIFICATION.md ("The list"): what they measure, whether they are sound, the version they rebuild, and the
- * list that costs least. Numbers and byte areas go in; nothing is allocated, nothing is kept between calls, and every call returns on
- * any input. So a call may be made from any thread, and several at once, as long as no area that one writes is used by another. Link
- * with libcontroller.a.
+ * Scope: the lists of docs/SPECIFICATION.md ("The list"): what they measure, whether they are sound, the version they rebuild, whether two
+ * of them give the same one, and the list that costs least. Numbers and byte areas go in; nothing is allocated, nothing is kept between
+ * calls, and every call returns on any input. So a call may be made from any thread, and several at once, as long as no area that one
+ * writes is used by another. Link with libcontroller.a.
  *
  * SURROUNDINGS. The library asks for memcpy and memset, and for nothing else. It has no data of its own. Stack needed, measured by
- * tests/stack.c: measure, rebuild, check and partition under 1 KiB each, pass 61 KiB (its record of kinds and sizes goes by value
- * through each look).
+ * tests/stack.c: measure, rebuild, check, compare and partition under 1 KiB each, pass 61 KiB (its record of kinds and sizes goes by
+ * value through each look).
  *
- * NAMES. The five calls have plain names. Where they collide with others, give them a prefix: objcopy --redefine-sym measure=box_measure,
- * and so for rebuild, check, partition and pass, on the archive; and declare them so.
+ * NAMES. The six calls have plain names. Where they collide with others, give them a prefix: objcopy --redefine-sym measure=box_measure,
+ * and so for rebuild, check, compare, partition and pass, on the archive; and declare them so.
  *
  * AREAS. An area is a pointer and its length in bytes. A length of 0 goes with any pointer that is not NULL. No area that is lent for
  * writing may share a byte with another area of the same call.
@@ -22,7 +22,7 @@
  *   0       4     number: 0 accepted, else why it was refused (below)
  *   4       4     place: the record concerned, counted from 0; 0 where no record is
  *   8       8     cost, in 256ths of a disk byte
- *   16      4     entries: records of the list
+ *   16      4     entries: records of the list; of compare, 1 for yes and 0 for no
  *   20      4     stored bytes: the sizes of new records together
  *   24      4     looks
  *   28      4     whole length: all sizes together
@@ -55,8 +55,8 @@
  *    3  the list's length is no multiple of 12, or over 49,152
  *    4  a record of other kind, with a nonzero byte 1 to 3, of size 0, or a new record with an address
  *    5  a new record right after a new one
- *    6  the sizes pass the version's length (in measure, rebuild and check: 16,777,216) at this record; or, in partition and pass,
- *       they end short of it (place: the number of records)
+ *    6  the sizes pass the version's length (in measure, rebuild, check and compare: 16,777,216) at this record; or, in partition
+ *       and pass, they end short of it (place: the number of records)
  *    7  a match runs beyond the store
  *    8  a match's bytes differ from the version
  *   the disk
@@ -76,7 +76,7 @@ extern "C" {
 #define ANSWER_BYTES 32
 
 /* The version of this library: it grows when a call, an answer or a number changes. */
-#define CONTROLLER_VERSION 3
+#define CONTROLLER_VERSION 4
 
 /* EN and EM are 1 to E_MOST, F is 1 to F_MOST. */
 #define E_MOST 255
@@ -186,6 +186,24 @@ uint32_t check(const uint8_t *list, size_t list_len,
                const uint8_t *store, size_t store_len,
                uint32_t k,
                uint8_t *answer, size_t answer_len);
+
+/* compare - whether two lists give the same version.
+ *
+ * Does: goes through both lists side by side and compares what they stand for, the shorter of the two current stretches at a time, up to the
+ *   first difference; neither version is built. Yes, 1, exactly where rebuild would make the same bytes of both; else no, 0.
+ * Areas: first and second, two lists; first_block and second_block, the stored block of each; store, that of both. Areas that are only read
+ *   may be the same.
+ * Writes: answer (entries: 1 yes, 0 no).
+ * Refuses, as check does but for its 11, first the first list wholly, then the second: 2 at 0; 3 at 0; record by record 4, 5, 6, 7 at the
+ *   record; 10 at 0. The place counts within the list at fault. Which of the two that is, check tells.
+ * On refusal: answer holds number and place.
+ * Returns: the number. */
+uint32_t compare(const uint8_t *first, size_t first_len,
+                 const uint8_t *second, size_t second_len,
+                 const uint8_t *first_block, size_t first_block_len,
+                 const uint8_t *second_block, size_t second_block_len,
+                 const uint8_t *store, size_t store_len,
+                 uint8_t *answer, size_t answer_len);
 
 /* partition - the list that costs least.
  *

@@ -32,11 +32,12 @@ struct shape {
     enum kinds kinds;
 };
 
-/* One list with its version, store and stored block, and the areas to write. */
+/* One list with its version, store and stored block; a second list of that version, with its stored block; and the areas to write. */
 static struct {
     uint8_t list[RECORDS_MOST * RECORD_BYTES], list_area[RECORDS_MOST * RECORD_BYTES], choice[RECORDS_MOST];
-    uint8_t *version, *store, *block, *area;
-    size_t list_len, version_len, block_len;
+    uint8_t second[RECORDS_MOST * RECORD_BYTES];
+    uint8_t *version, *store, *block, *second_block, *area;
+    size_t list_len, version_len, block_len, second_block_len;
 } in;
 
 #define SEED UINT64_C(0x9e3779b97f4a7c15)
@@ -84,6 +85,33 @@ static void add_small(int *after_new)
     add(!*after_new, size, draw() % 65536);
 }
 
+static uint32_t number_at(const uint8_t *at)
+{
+    return (uint32_t)at[0] | (uint32_t)at[1] << 8 | (uint32_t)at[2] << 16 | (uint32_t)at[3] << 24;
+}
+
+/* The second list, cut at other places: of a match behind a new record, the first half is stored with that. */
+static void set_second(void)
+{
+    memcpy(in.second, in.list, in.list_len);
+    in.second_block_len = 0;
+    for (size_t i = 0, offset = 0; i < in.list_len; i += RECORD_BYTES) {
+        uint8_t *record = in.second + i;
+        const uint32_t size = number_at(record + 4);
+        uint32_t stored = size;
+        if (record[0] == KIND_MATCH) {
+            stored = i > 0 && record[-RECORD_BYTES] == KIND_NEW ? size / 2 : 0;
+            put_number(record + 4, size - stored);
+            put_number(record + 8, number_at(record + 8) + stored);
+        }
+        if (record[0] == KIND_MATCH && stored > 0)
+            put_number(record + 4 - RECORD_BYTES, number_at(record + 4 - RECORD_BYTES) + stored);
+        memcpy(in.second_block + in.second_block_len, in.version + offset, stored);
+        in.second_block_len += stored;
+        offset += size;
+    }
+}
+
 /* The same shape gives the same input each time. */
 static void set_input(const struct shape *shape)
 {
@@ -99,6 +127,7 @@ static void set_input(const struct shape *shape)
         const int is_match = shape->kinds == MATCHES || (shape->kinds == TURNS && i % 2 == 1);
         add(is_match, size, (shape->records - 1 - i) * size);
     }
+    set_second();
 }
 
 static uint8_t *touched(size_t length)
@@ -118,6 +147,7 @@ static void set_up(void)
     in.version = touched(VERSION_MOST);
     in.store = touched(VERSION_MOST);
     in.block = touched(VERSION_MOST);
+    in.second_block = touched(VERSION_MOST);
     in.area = touched(VERSION_MOST);
     memset(in.list_area, 1, sizeof in.list_area);
     memset(in.choice, 1, sizeof in.choice);
@@ -125,10 +155,10 @@ static void set_up(void)
 
 /* ---- The calls ---- */
 
-enum { MEASURE, CHECK, REBUILD, PARTITION, PASS, CALLS };
+enum { MEASURE, CHECK, COMPARE, REBUILD, PARTITION, PASS, CALLS };
 enum side { LIBRARY, REFERENCE, SIDES };
 
-static const char *const call_name[CALLS] = { "measure", "check", "rebuild", "partition", "pass" };
+static const char *const call_name[CALLS] = { "measure", "check", "compare", "rebuild", "partition", "pass" };
 
 static uint8_t answer[SIDES][ANSWER_BYTES];
 
@@ -144,6 +174,9 @@ static uint32_t make_call(int call, enum side side)
     case CHECK:
         return (ref ? ref_check : check)(in.list, in.list_len, in.block, in.block_len, in.store, VERSION_MOST, (uint32_t)last,
                                          to, ANSWER_BYTES);
+    case COMPARE:
+        return (ref ? ref_compare : compare)(in.list, in.list_len, in.second, in.list_len, in.block, in.block_len, in.second_block,
+                                             in.second_block_len, in.store, VERSION_MOST, to, ANSWER_BYTES);
     case REBUILD:
         return (ref ? ref_rebuild : rebuild)(in.list, in.list_len, in.block, in.block_len, in.store, VERSION_MOST, in.area,
                                              VERSION_MOST, to, ANSWER_BYTES);

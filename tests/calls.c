@@ -11,7 +11,7 @@
 
 #include "controller.h"
 
-#define CASES 251
+#define CASES 300
 #define FILL 0xA5
 #define AREA 256
 
@@ -320,6 +320,104 @@ static void test_rebuild(void)
         answer, ANSWER_BYTES - 1)));
 }
 
+/* ---- Compare, over a store that holds ABCDE twice ---- */
+
+static const char twice[] = "ABCDEABCDEXY";
+
+static uint8_t second[AREA];
+
+static uint32_t compared(size_t n, const char *block, size_t m, const char *second_block)
+{
+    fill_areas();
+    return compare(list, n, second, m, (const uint8_t *)block, strlen(block), (const uint8_t *)second_block, strlen(second_block),
+        (const uint8_t *)twice, 12, answer, sizeof answer);
+}
+
+enum { NO, YES };
+
+static const struct {
+    const char *what, *first, *block, *second, *second_block;
+    uint32_t same;
+} pairs[] = {
+    { "two empty lists", "", "", "", "", YES },
+    { "a list and itself", "N2 M3@2", "ab", "N2 M3@2", "ab", YES },
+    { "the same bytes, cut differently", "N2 M3@2", "AB", "M3@0 N2", "DE", YES },
+    { "matches cut in two", "M5@0 M2@10", "", "M2@0 M3@2 M1@10 M1@11", "", YES },
+    { "the same bytes from another place of the store", "M5@0", "", "M5@5", "", YES },
+    { "in part from another place of the store", "M2@0 M3@7", "", "M3@5 M2@3", "", YES },
+    { "stored in one and drawn in the other", "N5", "ABCDE", "M5@0", "", YES },
+    { "stored in several records and drawn", "N2 M1@2 N2", "ABDE", "M5@0", "", YES },
+    { "drawn and stored in several records", "M5@0", "", "N1 M1@6 N1 M1@3 N1", "ACE", YES },
+    { "more stored bytes in the second", "N2 M3@2", "AB", "N5", "ABCDE", YES },
+    { "a stored block that would fit the first too", "N2 M3@0", "XY", "M2@10 N2 M1@2", "AB", YES },
+    { "the first byte, stored", "N5", "ABCDE", "N5", "XBCDE", NO },
+    { "the last byte, stored", "N5", "ABCDE", "N5", "ABCDX", NO },
+    { "the last byte, drawn", "M4@0 M1@4", "", "M4@5 M1@10", "", NO },
+    { "the last byte, stored and drawn", "N4 M1@4", "ABCD", "M4@0 N1", "X", NO },
+    { "the last byte before a cut of one", "M2@0 M3@2", "", "N1 M4@1", "X", NO },
+    { "a byte behind a cut of one", "M1@0 N2 M2@3", "BX", "M5@0", "", NO },
+    { "a byte in the middle, between other cuts", "M1@0 M4@1 M2@10", "", "M2@0 M4@2 M1@11", "", NO },
+    { "the same parts in another order", "M2@0 M2@2", "", "M2@2 M2@0", "", NO },
+    { "stored bytes in another order", "N1 M1@10 N1", "ab", "N1 M1@10 N1", "ba", NO },
+    { "the first is a prefix of the second", "M4@0", "", "M5@0", "", NO },
+    { "the second is a prefix of the first", "N5", "ABCDE", "M4@5", "", NO },
+    { "an empty list and a byte", "", "", "M1@0", "", NO },
+    { "a byte and an empty list", "N1", "a", "", "", NO },
+};
+
+/* Of the list at fault: 2 and 3 stand below. */
+static const struct {
+    const char *what, *list, *block;
+    uint32_t number, place;
+} at_fault[] = {
+    { "kind 2", "M1@0 X5@0", "", 4, 1 },
+    { "new after new", "M1@0 N1 N1", "ab", 5, 2 },
+    { "sizes of 16777217", "N1 M16777216@0", "a", 6, 1 },
+    { "a match beyond the store", "M5@0 M2@10 M1@12", "", 7, 2 },
+    { "a block one byte short", "N2", "a", 10, 0 },
+    { "a block one byte longer", "N2", "abc", 10, 0 },
+};
+
+/* Two lists at fault: the first list's number stands. */
+static const struct {
+    const char *what, *first, *block, *second, *second_block;
+    uint32_t number, place;
+} both_at_fault[] = {
+    { "7 at 1 of the first before 4 at 0 of the second", "M1@0 M1@12", "", "X1@0", "", 7, 1 },
+    { "10 of the first before 4 of the second", "N2", "a", "N0", "", 10, 0 },
+    { "10 of the first before 10 of the second", "N2", "a", "N1", "", 10, 0 },
+    { "4 at 1 of the first before 4 at 0 of the second", "M1@0 N0", "", "N0", "", 4, 1 },
+};
+
+static void test_compare(void)
+{
+    char what[80];
+    for (size_t i = 0; i < sizeof pairs / sizeof *pairs; i++) {
+        size_t n = list_of(pairs[i].first, list), m = list_of(pairs[i].second, second);
+        expect("compare", pairs[i].what, answered(compared(n, pairs[i].block, m, pairs[i].second_block), (struct values){ .entries = pairs[i].same })
+            && untouched());
+    }
+    for (size_t i = 0; i < sizeof at_fault / sizeof *at_fault; i++) {
+        size_t n = list_of(at_fault[i].list, list), m = list_of("N1 M1@0", second);
+        snprintf(what, sizeof what, "%s in the first", at_fault[i].what);
+        expect("compare", what, refused(compared(n, at_fault[i].block, m, "a"), at_fault[i].number, at_fault[i].place));
+        n = list_of("N1 M1@0", list), m = list_of(at_fault[i].list, second);
+        snprintf(what, sizeof what, "%s in the second", at_fault[i].what);
+        expect("compare", what, refused(compared(n, "a", m, at_fault[i].block), at_fault[i].number, at_fault[i].place));
+    }
+    for (size_t i = 0; i < sizeof both_at_fault / sizeof *both_at_fault; i++) {
+        size_t n = list_of(both_at_fault[i].first, list), m = list_of(both_at_fault[i].second, second);
+        expect("compare", both_at_fault[i].what, refused(compared(n, both_at_fault[i].block, m, both_at_fault[i].second_block),
+            both_at_fault[i].number, both_at_fault[i].place));
+    }
+    list_of("N1 M1@0", list), list_of("N1 M1@0", second);
+    expect("compare", "11 bytes in the first", refused(compared(11, "a", 24, "a"), 3, 0));
+    expect("compare", "11 bytes in the second", refused(compared(24, "a", 11, "a"), 3, 0));
+    expect("compare", "10 of the first before 3 of the second", refused(compared(24, "", 11, "a"), 10, 0));
+    fill_areas();
+    expect("compare", "an answer area of 31 bytes", not_made(compare(list, 11, second, 24, list, 0, list, 0, list, 0, answer, ANSWER_BYTES - 1)));
+}
+
 /* ---- Partition and pass: accepted ---- */
 
 typedef uint32_t call(uint32_t en, uint32_t em, uint32_t f, const uint8_t *list, size_t list_len, const uint8_t *version,
@@ -591,6 +689,18 @@ static void test_greatest_lists(void)
     fill_areas();
     expect("partition", "2 before 3", refused(partition(1, 1, 1, most, length - 1, bytes, VERSION_MOST + 1, bytes, VERSION_MOST, bits, RECORDS_MOST, out,
         length, stored, VERSION_MOST, answer, sizeof answer), 2, 0));
+    /* 4,096 matches and one cover the same 16,777,216 bytes of 0; then the last stored byte differs. */
+    for (size_t i = 0; i < RECORDS_MOST; i++)
+        put_record(most, i, KIND_MATCH, VERSION_MOST / RECORDS_MOST, (uint32_t)(3 * i));
+    put_record(out, 0, KIND_NEW, VERSION_MOST, 0);
+    memset(stored, 0, VERSION_MOST);
+    fill_areas();
+    expect("compare", "4,096 records and one, 16,777,216 bytes", answered(compare(most, length, out, RECORD_BYTES, bytes, 0, stored, VERSION_MOST, bytes,
+        VERSION_MOST, answer, sizeof answer), (struct values){ .entries = YES }));
+    stored[VERSION_MOST - 1] = 1;
+    fill_areas();
+    expect("compare", "the last of 16,777,216 bytes", answered(compare(most, length, out, RECORD_BYTES, bytes, 0, stored, VERSION_MOST, bytes, VERSION_MOST,
+        answer, sizeof answer), (struct values){ .entries = NO }));
     free(most), free(out), free(bits), free(zeros), free(bytes), free(stored);
 }
 
@@ -605,6 +715,14 @@ static void test_greatest_store(void)
     fill_areas();
     expect("check", "2 before 3", refused(check(list, 35, block, 10, huge, (size_t)STORE_MOST + 1, 0, answer, sizeof answer), 2, 0));
     fill_areas();
+    expect("compare", "a store of 268,435,456 bytes", answered(compare(list, 36, list, 36, block, 10, block, 10, huge, STORE_MOST, answer, sizeof answer),
+        (struct values){ .entries = YES }));
+    fill_areas();
+    expect("compare", "a store of 268,435,457 bytes", refused(compare(list, 36, list, 36, block, 10, block, 10, huge, (size_t)STORE_MOST + 1, answer,
+        sizeof answer), 2, 0));
+    fill_areas();
+    expect("compare", "2 before 3", refused(compare(list, 35, list, 36, block, 10, block, 10, huge, (size_t)STORE_MOST + 1, answer, sizeof answer), 2, 0));
+    fill_areas();
     expect("pass", "a store of 268,435,457 bytes", refused(pass(10, 10, 256, list, 36, (const uint8_t *)VERSION_C, 29, huge, (size_t)STORE_MOST + 1, choice,
         AREA, list_area, AREA, block_area, AREA, answer, sizeof answer), 2, 0));
     free(huge);
@@ -615,6 +733,7 @@ int main(void)
     test_measure();
     test_check();
     test_rebuild();
+    test_compare();
     test_accepted();
     test_refused(partition, "partition");
     test_refused(pass, "pass");

@@ -4,15 +4,16 @@
  * must be the reference's; what is lent for reading must stay as it was, and on refusal every area but the answer. Without the
  * reference: the written list is the one its choice makes, it measures as the answer says and rebuilds the version, it comes
  * back from a second partition as it is, short lists are held against all their choices, a match that stands alone is stored exactly
- * where that costs less, and the pass is held to its bounds.
+ * where that costs less, and the pass is held to its bounds; two lists are said to give the same version exactly where rebuild makes the
+ * same bytes of both, in either order, and a list gives the same version as itself and as what partition and pass wrote of it.
  *
- * In order: the calls; chance; the areas; fields; reports; one comparison; the laws; one case; valid inputs; damage; the cases;
- * the table. Not here: NULL for an empty area, which controller.h does not allow.
+ * In order: the calls; chance; the areas; fields; reports; one comparison; the laws; one case; valid inputs; second lists; damage; the
+ * cases; the table. Not here: NULL for an empty area, which controller.h does not allow.
  *
  *   differential [seed]
  *
- * The same seed gives the same inputs. Exit 0 where nothing differs and each number of document 01 and each kind of price below was reached,
- * else 1.
+ * The same seed gives the same inputs. Exit 0 where nothing differs, each number of document 01, for each list of compare, and each kind of
+ * price below was reached, and yes of two different lists and no were each given in two pairs of five or more; else 1.
  */
 #include <inttypes.h>
 #include <signal.h>
@@ -25,9 +26,10 @@
 
 /* ---- The calls ---- */
 
-enum { MEASURE, REBUILD, CHECK, PARTITION, PASS, CALLS };
+/* The calls; and, in the table, compare where the second list is at fault. */
+enum { MEASURE, REBUILD, CHECK, COMPARE, PARTITION, PASS, CALLS, SECOND_AT_FAULT = CALLS, ROWS };
 
-static const char *const call_name[CALLS] = { "measure", "rebuild", "check", "partition", "pass" };
+static const char *const call_name[ROWS] = { "measure", "rebuild", "check", "compare", "partition", "pass", "  second" };
 
 /* How many of each case. */
 enum { SMALL_CASES = 1000000, MIDDLE_CASES = 8000, FULL_CASES = 60, BRUTE_RECORDS = 10 };
@@ -58,11 +60,11 @@ static int one_in(uint32_t n)
 
 /* ---- The areas ---- */
 
-/* What a call is lent: the inputs, and the lengths of the areas to write. */
+/* What a call is lent: the inputs, with a second list and its stored block, and the lengths of the areas to write. */
 struct input {
     uint32_t en, em, f, k;
-    uint8_t *list, *version, *store, *block;
-    size_t list_len, version_len, store_len, block_len;
+    uint8_t *list, *version, *store, *block, *second, *second_block;
+    size_t list_len, version_len, store_len, block_len, second_len, second_block_len;
     size_t choice_len, list_area_len, block_area_len, area_len, answer_len;
 };
 
@@ -70,8 +72,8 @@ struct input {
 enum { GUARD = 64, ROOM = 4096, NOISE = 65536 };
 
 /* The inputs, each with a copy to see that it stays; zeros stands for a version or store of any length and has no copy. */
-static uint8_t *list_bytes, *version_bytes, *store_bytes, *block_bytes;
-static uint8_t *list_copy, *version_copy, *store_copy, *block_copy;
+static uint8_t *list_bytes, *version_bytes, *store_bytes, *block_bytes, *second_bytes, *second_block_bytes;
+static uint8_t *list_copy, *version_copy, *store_copy, *block_copy, *second_copy, *second_block_copy;
 static uint8_t *zeros;
 static uint8_t noise[2 * NOISE];
 
@@ -96,12 +98,13 @@ static const unsigned lent[CALLS] = {
     1u << ANSWER,
     1u << WHOLE | 1u << ANSWER,
     1u << ANSWER,
+    1u << ANSWER,
     1u << CHOICE | 1u << LIST | 1u << BLOCK | 1u << ANSWER,
     1u << CHOICE | 1u << LIST | 1u << BLOCK | 1u << ANSWER,
 };
 
 /* The areas of the second partition and of the laws. */
-static uint8_t *law_choice, *law_list, *law_block, *law_whole;
+static uint8_t *law_choice, *law_list, *law_block, *law_whole, *law_second_whole;
 
 static uint8_t *room_for(size_t most)
 {
@@ -120,9 +123,11 @@ static void make_room(void)
     version_bytes = room_for(VERSION_MOST), version_copy = room_for(VERSION_MOST);
     store_bytes = room_for(VERSION_MOST), store_copy = room_for(VERSION_MOST);
     block_bytes = room_for(VERSION_MOST), block_copy = room_for(VERSION_MOST);
+    second_bytes = room_for(list_most), second_copy = room_for(list_most);
+    second_block_bytes = room_for(VERSION_MOST), second_block_copy = room_for(VERSION_MOST);
     zeros = room_for(STORE_MOST);
     law_choice = room_for(RECORDS_MOST), law_list = room_for(list_most);
-    law_block = room_for(VERSION_MOST), law_whole = room_for(VERSION_MOST);
+    law_block = room_for(VERSION_MOST), law_whole = room_for(VERSION_MOST), law_second_whole = room_for(VERSION_MOST);
     for (int a = 0; a < AREAS; a++)
         for (int side = 0; side < SIDES; side++)
             areas[a].bytes[side] = room_for(areas[a].most);
@@ -226,6 +231,8 @@ static void dump_input(const struct input *in)
     dump("version", in->version, in->version_len);
     dump("store", in->store, in->store_len);
     dump("stored block", in->block, in->block_len);
+    dump("second list", in->second, in->second_len);
+    dump("its stored block", in->second_block, in->second_block_len);
 }
 
 static void dump_answers(int call, const struct input *in)
@@ -273,6 +280,8 @@ static void keep_inputs(const struct input *in)
 {
     memcpy(list_copy, in->list, in->list_len);
     memcpy(block_copy, in->block, in->block_len);
+    memcpy(second_copy, in->second, in->second_len);
+    memcpy(second_block_copy, in->second_block, in->second_block_len);
     if (in->version != zeros)
         memcpy(version_copy, in->version, in->version_len);
     if (in->store != zeros)
@@ -285,6 +294,10 @@ static void inputs_stayed(int call, const struct input *in)
         differ(call, "the list was written to", in);
     if (memcmp(block_copy, in->block, in->block_len) != 0)
         differ(call, "the stored block was written to", in);
+    if (memcmp(second_copy, in->second, in->second_len) != 0)
+        differ(call, "the second list was written to", in);
+    if (memcmp(second_block_copy, in->second_block, in->second_block_len) != 0)
+        differ(call, "the second stored block was written to", in);
     if (in->version != zeros && memcmp(version_copy, in->version, in->version_len) != 0)
         differ(call, "the version was written to", in);
     if (in->store != zeros && memcmp(store_copy, in->store, in->store_len) != 0)
@@ -306,6 +319,9 @@ static uint32_t run(int call, int side, const struct input *in)
     case CHECK:
         return (library ? check : ref_check)(in->list, in->list_len, in->block, in->block_len,
                                              in->store, in->store_len, in->k, answer, in->answer_len);
+    case COMPARE:
+        return (library ? compare : ref_compare)(in->list, in->list_len, in->second, in->second_len, in->block, in->block_len,
+                                                 in->second_block, in->second_block_len, in->store, in->store_len, answer, in->answer_len);
     case PARTITION:
         return (library ? partition : ref_partition)(in->en, in->em, in->f, in->list, in->list_len, in->version, in->version_len,
                                                      in->store, in->store_len, area(CHOICE, side), in->choice_len,
@@ -341,22 +357,30 @@ static void same_area(int call, int which, int refused, const struct input *in)
 
 /* The columns of the table: numbers 0 to 11, 6 at the short end, 9 for the answer area. */
 enum { SHORT_END = 12, SHORT_ANSWER = 13, COLUMNS = 14 };
-static uint64_t compared[CALLS], reached[CALLS][COLUMNS];
+static uint64_t compared[ROWS], reached[ROWS][COLUMNS];
+
+/* Whether rebuild, which makes compare's checks of the first list, found no fault in it. */
+static int first_is_sound(void)
+{
+    return given[REBUILD].number == ACCEPTED || given[REBUILD].number == AREA_TOO_SHORT;
+}
 
 static void tally(int call, const struct input *in)
 {
     const struct given *g = &given[call];
+    const int second = call == COMPARE && g->number != ACCEPTED && in->answer_len >= ANSWER_BYTES && first_is_sound();
+    const int row = second ? SECOND_AT_FAULT : call;
     uint32_t column = g->number;
-    if (g->number == BAD_SIZES && g->place == records(in))
+    if (g->number == BAD_SIZES && g->place == records(in) && (call == PARTITION || call == PASS))
         column = SHORT_END;
     if (in->answer_len < ANSWER_BYTES)
         column = SHORT_ANSWER;
-    compared[call]++;
-    reached[call][column]++;
+    compared[row]++;
+    reached[row][column]++;
 }
 
-/* Compares one call; whether it was accepted. */
-static int compare(int call, const struct input *in)
+/* Makes one call on both sides, and compares what they did; whether it was accepted. */
+static int try_call(int call, const struct input *in)
 {
     current_call = call;
     current_input = in;
@@ -553,6 +577,66 @@ static void law_of_lone_matches(const struct input *in)
     }
 }
 
+/* A list with its stored block. */
+struct listed {
+    const uint8_t *list;
+    size_t list_len;
+    const uint8_t *block;
+    size_t block_len;
+};
+
+/* What compare says of two lists. */
+enum { NO, YES, REFUSED };
+
+static uint32_t says(struct listed a, struct listed b, const struct input *in)
+{
+    uint8_t answer[ANSWER_BYTES];
+    const uint32_t number = compare(a.list, a.list_len, b.list, b.list_len, a.block, a.block_len, b.block, b.block_len, in->store,
+                                    in->store_len, answer, sizeof answer);
+    return number == ACCEPTED ? answer_entries(answer) : REFUSED;
+}
+
+/* Rebuilds the version of a list; its length. */
+static uint32_t rebuild_into(uint8_t *version, struct listed a, const struct input *in)
+{
+    uint8_t answer[ANSWER_BYTES];
+    if (rebuild(a.list, a.list_len, a.block, a.block_len, in->store, in->store_len, version, VERSION_MOST, answer, sizeof answer) != ACCEPTED)
+        differ(COMPARE, "a list is compared that does not rebuild", in);
+    return answer_whole(answer);
+}
+
+static uint64_t yes_of_one_list, yes_of_two_lists, no;
+
+/* Yes exactly where both lists rebuild the same bytes, in either order; and of a list and itself. */
+static void law_of_compare(const struct input *in)
+{
+    const struct listed a = { in->list, in->list_len, in->block, in->block_len };
+    const struct listed b = { in->second, in->second_len, in->second_block, in->second_block_len };
+    const uint32_t n = rebuild_into(law_whole, a, in), m = rebuild_into(law_second_whole, b, in);
+    const uint32_t same = n == m && memcmp(law_whole, law_second_whole, n) == 0 ? YES : NO;
+    if (given[COMPARE].entries != same)
+        differ(COMPARE, same ? "no of lists that rebuild the same bytes" : "yes of lists that rebuild different bytes", in);
+    if (says(b, a, in) != same)
+        differ(COMPARE, "another answer in the other order", in);
+    if (says(a, a, in) != YES)
+        differ(COMPARE, "no yes of a list and itself", in);
+    const int one_list = a.list_len == b.list_len && memcmp(a.list, b.list, a.list_len) == 0;
+    *(same == NO ? &no : one_list ? &yes_of_one_list : &yes_of_two_lists) += 1;
+}
+
+/* The list handed in, with its stored block, and the written one give the same version. */
+static void law_of_same_version(int call, const struct input *in)
+{
+    size_t stored;
+    for (size_t i = 0; i < records(in); i++)
+        law_choice[i] = record(in->list, i)[0] == 0;
+    list_of_choice(in, law_choice, &stored);
+    const struct listed handed = { in->list, in->list_len, law_block, stored };
+    const struct listed written = { area(LIST, LIBRARY), RECORD_BYTES * given[call].entries, area(BLOCK, LIBRARY), given[call].stored };
+    if (says(handed, written, in) != YES)
+        differ(call, "the written list does not give the version of the list handed in", in);
+}
+
 /* The pass costs no less than partition's list and no more than the list handed in, and makes at most 2n - 1 looks. */
 static void law_of_pass(const struct input *in)
 {
@@ -573,26 +657,30 @@ static void law_of_pass(const struct input *in)
 static void try_input(const struct input *in)
 {
     case_count++;
-    compare(MEASURE, in);
-    compare(REBUILD, in);
-    compare(CHECK, in);
-    const int accepted = compare(PARTITION, in);
+    try_call(MEASURE, in);
+    try_call(REBUILD, in);
+    try_call(CHECK, in);
+    if (try_call(COMPARE, in))
+        law_of_compare(in);
+    const int accepted = try_call(PARTITION, in);
     if (accepted) {
         tally_price(in);
         law_of_choice(PARTITION, in);
         law_of_measure(PARTITION, in);
         law_of_rebuild(PARTITION, in);
         law_of_second_partition(in);
+        law_of_same_version(PARTITION, in);
         law_of_lone_matches(in);
         if (records(in) <= BRUTE_RECORDS)
             law_of_least(in);
     }
-    if (compare(PASS, in) != accepted)
+    if (try_call(PASS, in) != accepted)
         differ(PASS, "accepted or refused otherwise than partition", in);
     if (accepted) {
         law_of_choice(PASS, in);
         law_of_measure(PASS, in);
         law_of_rebuild(PASS, in);
+        law_of_same_version(PASS, in);
         law_of_pass(in);
     }
 }
@@ -622,6 +710,8 @@ static struct input empty_input(size_t store_len)
     in.version = version_bytes;
     in.store = store_bytes;
     in.block = block_bytes;
+    in.second = second_bytes;
+    in.second_block = second_block_bytes;
     in.store_len = store_len;
     return in;
 }
@@ -659,17 +749,6 @@ static void append_match(struct input *in, uint32_t size, uint32_t address)
 static size_t extra(void)
 {
     return one_in(2) ? 0 : below(48);
-}
-
-/* Lengths of areas that are long enough, and a k. */
-static void set_areas(struct input *in)
-{
-    in->choice_len = records(in) + extra();
-    in->list_area_len = in->list_len + extra();
-    in->block_area_len = in->version_len + extra();
-    in->area_len = in->version_len + extra();
-    in->answer_len = ANSWER_BYTES + extra();
-    in->k = records(in) == 0 ? 0 : below(records(in));
 }
 
 /* A size around those at which a merge or a lone match is worth it, in disk bytes, and their parts, cut to 1 and most. */
@@ -721,13 +800,130 @@ static void draw_price(struct input *in)
     in->f = big || one_in(16) ? (one_in(2) ? 65535 : 1 + below(65535)) : small[below(8)];
 }
 
+/* ---- Second lists: of the same version, cut elsewhere, with other places of the store and other kinds ---- */
+
+/* Appends so many bytes of the version, from `offset` on, as new; right after a new record they go with that. */
+static void append_second_new(struct input *in, size_t size, size_t offset)
+{
+    uint8_t *r = in->second + in->second_len;
+    if (in->second_len > 0 && r[-RECORD_BYTES] == 0) {
+        r -= RECORD_BYTES;
+    } else {
+        memset(r, 0, RECORD_BYTES);
+        in->second_len += RECORD_BYTES;
+    }
+    put32(r + 4, get32(r + 4) + (uint32_t)size);
+    memcpy(in->second_block + in->second_block_len, in->version + offset, size);
+    in->second_block_len += size;
+}
+
+static void append_second_match(struct input *in, size_t size, size_t address)
+{
+    uint8_t *r = in->second + in->second_len;
+    memset(r, 0, RECORD_BYTES);
+    r[0] = 1;
+    put32(r + 4, (uint32_t)size);
+    put32(r + 8, (uint32_t)address);
+    in->second_len += RECORD_BYTES;
+}
+
+/* Where a short store has the version's byte at `offset`, looked for from anywhere on; its length where it has not. */
+static size_t somewhere(const struct input *in, size_t offset)
+{
+    if (in->store_len == 0 || in->store_len > ROOM)
+        return in->store_len;
+    const size_t from = below(in->store_len);
+    for (size_t i = 0; i < in->store_len; i++) {
+        const size_t at = (from + i) % in->store_len;
+        if (in->store[at] == in->version[offset])
+            return at;
+    }
+    return in->store_len;
+}
+
+/* How many bytes, up to most, the version has from `offset` on as the store has from an address on. */
+static size_t alike(const struct input *in, size_t offset, size_t address, size_t most)
+{
+    size_t n = 0;
+    while (n < most && address + n < in->store_len && in->store[address + n] == in->version[offset + n])
+        n++;
+    return n;
+}
+
+/* At each offset a match, by the first list's one there or anywhere in the store, else new; the last record that fits takes the rest. */
+static void draw_second(struct input *in)
+{
+    const size_t whole = in->version_len, mean = whole / 2000 < 6 ? 6 : whole / 2000;
+    size_t i = 0, begin = 0, size;
+    in->second_len = in->second_block_len = 0;
+    for (size_t offset = 0; offset < whole; offset += size) {
+        while (i < records(in) && begin + size_at(in, i) <= offset)
+            begin += size_at(in, i++);
+        const int drawn = i < records(in) && record(in->list, i)[0] == 1;
+        const size_t here = drawn ? get32(record(in->list, i) + 8) + offset - begin : in->store_len;
+        const size_t address = one_in(2) ? here : somewhere(in, offset);
+        const size_t most = 1 + below(2 * mean), left = whole - offset;
+        const int last = in->second_len + 2 * RECORD_BYTES > RECORD_BYTES * RECORDS_MOST;
+        const size_t same = last || one_in(4) ? 0 : alike(in, offset, address, most < left ? most : left);
+        size = last ? left : same > 0 ? same : most < left ? most : left;
+        if (same > 0)
+            append_second_match(in, size, address);
+        else
+            append_second_new(in, size, offset);
+    }
+}
+
+/* The last record of the second list loses a byte, or goes. */
+static void shorten_second(struct input *in)
+{
+    uint8_t *r = in->second + in->second_len - RECORD_BYTES;
+    const uint32_t size = get32(r + 4), taken = size > 1 && one_in(2) ? 1 : size;
+    if (r[0] == 0)
+        in->second_block_len -= taken;
+    if (taken == size)
+        in->second_len -= RECORD_BYTES;
+    else
+        put32(r + 4, size - taken);
+}
+
+/* Leaves the second list sound, but of another version, or mostly so: a stored byte, often the last; another place of the store; a byte or a
+ * record less, or a byte more, so that one is a prefix of the other. */
+static void alter_second(struct input *in)
+{
+    const uint32_t way = below(4);
+    uint8_t *r = in->second_len == 0 ? NULL : record(in->second, one_in(2) ? in->second_len / RECORD_BYTES - 1 : below(in->second_len / RECORD_BYTES));
+    if (way == 0 && in->second_block_len > 0)
+        in->second_block[one_in(2) ? in->second_block_len - 1 : below(in->second_block_len)] ^= (uint8_t)(1u << below(8));
+    else if (way == 1 && r != NULL && r[0] == 1)
+        put32(r + 8, below(in->store_len - get32(r + 4) + 1));
+    else if (way == 2 && r != NULL)
+        shorten_second(in);
+    else
+        append_second_new(in, 1, in->version_len);
+}
+
+/* A whole list gets what goes with it: lengths of areas that are long enough, a k, and a second list. That one is altered in a little less than
+ * half of the cases, as damage makes other versions too. */
+static void complete(struct input *in)
+{
+    in->choice_len = records(in) + extra();
+    in->list_area_len = in->list_len + extra();
+    in->block_area_len = in->version_len + extra();
+    in->area_len = in->version_len + extra();
+    in->answer_len = ANSWER_BYTES + extra();
+    in->k = records(in) == 0 ? 0 : below(records(in));
+    draw_second(in);
+    if (below(20) < 9)
+        alter_second(in);
+}
+
 static struct input draw_input(const struct shape *shape)
 {
     struct input in = empty_input(shape->store_len);
     fill_letters(in.store, in.store_len, shape->letters);
     draw_price(&in);
     append_records(&in, shape);
-    set_areas(&in);
+    complete(&in);
     return in;
 }
 
@@ -914,12 +1110,26 @@ static void damage_once(struct input *in)
     damages[below(records(in) == 0 ? DAMAGES_WITHOUT_RECORD : DAMAGES)](in);
 }
 
-/* Mostly one, else none or two. */
+/* Breaks the second list or the length of its stored block in the same ways; what else is broken there is left out. */
+static void damage_second(struct input *in)
+{
+    struct input seen = *in;
+    seen.list = in->second;
+    seen.list_len = in->second_len;
+    seen.block_len = in->second_block_len;
+    damage_once(&seen);
+    in->second_len = seen.list_len;
+    in->second_block_len = seen.block_len;
+}
+
+/* Mostly one, else none or two; then, in one case of four, the second list. */
 static void damage_some(struct input *in)
 {
     const uint32_t times[] = { 0, 1, 1, 2 };
     for (uint32_t left = times[below(4)]; left > 0; left--)
         damage_once(in);
+    if (one_in(4))
+        damage_second(in);
 }
 
 /* ---- The cases ---- */
@@ -929,7 +1139,7 @@ static void damage_some(struct input *in)
 static void every_list(const struct input *in, size_t more, int last_new)
 {
     struct input next = *in;
-    set_areas(&next);
+    complete(&next);
     try_input(&next);
     for (uint32_t size = 1; more > 0 && size <= (in->en + in->em) * in->f / 256 + 1; size++) {
         next = *in;
@@ -1010,7 +1220,7 @@ static void list_lengths(void)
     try_input(&in);
     in.list_len--;
     append_match(&in, 1, 0);
-    set_areas(&in);
+    complete(&in);
     try_input(&in);
 }
 
@@ -1027,7 +1237,7 @@ static void store_lengths(void)
         in.store = zeros;
         draw_price(&in);
         append_match(&in, edges[i].size, edges[i].address);
-        set_areas(&in);
+        complete(&in);
         try_input(&in);
     }
 }
@@ -1085,7 +1295,7 @@ static void long_cases(void)
             else
                 append_match(&in, size, below(in.store_len - size + 1));
         }
-        set_areas(&in);
+        complete(&in);
         try_input(&in);
     }
 }
@@ -1105,25 +1315,27 @@ static void longest_full_case(uint32_t en, uint32_t em, uint32_t f)
         else
             append_match(&in, RECORDS_MOST, below(in.store_len - RECORDS_MOST + 1));
     }
-    set_areas(&in);
+    complete(&in);
     try_input(&in);
     in.version[in.version_len - 1] ^= 1;
     try_input(&in);
     in.version[in.version_len - 1] ^= 1;
     in.version_len++;
-    set_areas(&in);
+    complete(&in);
     try_input(&in);
 }
 
 /* ---- The table ---- */
 
-/* The columns that each call must reach. */
-static const char *const required[CALLS] = {
+/* The columns that each row must reach; a store that is too long is found with the first list. */
+static const char *const required[ROWS] = {
     "xx.xxxx......x",
     "x.xxxxxx.xx..x",
     "x.xxxxxx..xx.x",
+    "x.xxxxxx..x..x",
     "xxxxxxxxxx..xx",
     "xxxxxxxxxx..xx",
+    "...xxxxx..x...",
 };
 
 static void print_table(void)
@@ -1132,14 +1344,16 @@ static void print_table(void)
     for (int column = 0; column < SHORT_END; column++)
         printf(" %7d", column);
     printf(" %7s %7s\n", "6 end", "9 ans");
-    for (int call = 0; call < CALLS; call++) {
-        printf("%-9s  %8" PRIu64 " |", call_name[call], compared[call]);
+    for (int row = 0; row < ROWS; row++) {
+        printf("%-9s  %8" PRIu64 " |", call_name[row], compared[row]);
         for (int column = 0; column < COLUMNS; column++)
-            printf(" %7" PRIu64, reached[call][column]);
+            printf(" %7" PRIu64, reached[row][column]);
         printf("\n");
     }
     printf("short lists with another choice as cheap: %" PRIu64 "; passes dearer than partition: %" PRIu64 "\n", ties,
            dearer_passes);
+    printf("compare: yes of two different lists %" PRIu64 ", of one and the same %" PRIu64 ", no %" PRIu64 "\n", yes_of_two_lists,
+           yes_of_one_list, no);
     printf("partitions accepted");
     for (int i = 0; i < FACTORS; i++)
         printf("%s %" PRIu64 " at F %" PRIu32, i == 0 ? ":" : ",", factors[i].accepted, factors[i].f);
@@ -1169,15 +1383,25 @@ static int missing_prices(void)
     return count;
 }
 
+/* Whether yes of two different lists, or no, was given in less than two of five such pairs. */
+static int uneven_answers(void)
+{
+    const uint64_t both = yes_of_two_lists + no;
+    if (5 * yes_of_two_lists >= 2 * both && 5 * no >= 2 * both)
+        return 0;
+    printf("differential: yes of two different lists and no are not given about as often\n");
+    return 1;
+}
+
 /* How many required columns were never reached. */
 static int missing_columns(void)
 {
     int count = 0;
-    for (int call = 0; call < CALLS; call++)
+    for (int row = 0; row < ROWS; row++)
         for (int column = 0; column < COLUMNS; column++)
-            if (required[call][column] == 'x' && reached[call][column] == 0) {
+            if (required[row][column] == 'x' && reached[row][column] == 0) {
                 const int number = column == SHORT_END ? 6 : column == SHORT_ANSWER ? 9 : column;
-                printf("differential: %s never gave %d%s\n", call_name[call], number, column < SHORT_END ? "" :
+                printf("differential: %s never gave %d%s\n", call_name[row], number, column < SHORT_END ? "" :
                        column == SHORT_END ? " at the short end" : " for the answer area");
                 count++;
             }
@@ -1209,13 +1433,13 @@ int main(int argc, char **argv)
     longest_full_case(255, 32, 32768);
     print_table();
     uint64_t calls = 0;
-    for (int call = 0; call < CALLS; call++)
-        calls += compared[call];
+    for (int row = 0; row < ROWS; row++)
+        calls += compared[row];
     if (zeros[0] != 0 || memcmp(zeros, zeros + 1, STORE_MOST) != 0) {
         puts("differential: the long store was written to");
         return 1;
     }
-    if (missing_prices() + missing_columns() > 0)
+    if (missing_prices() + missing_columns() + uneven_answers() > 0)
         return 1;
     printf("differential: %" PRIu64 " calls compared, 0 differences\n", calls);
     return 0;

@@ -94,6 +94,12 @@ static void call_check(void)
     number = check(input.list, sizeof input.list, zeros, input.stored, zeros, BYTES, RECORDS_MOST - 1, answer, sizeof answer);
 }
 
+static void call_compare(void)
+{
+    number = compare(input.list, sizeof input.list, input.list, sizeof input.list, zeros, input.stored, zeros, input.stored, zeros, BYTES, answer,
+                     sizeof answer);
+}
+
 static void call_partition(void)
 {
     number = partition(input.en, input.em, input.f, input.list, sizeof input.list, zeros, input.length, zeros, BYTES, choice, sizeof choice,
@@ -116,6 +122,7 @@ static const struct call {
     { "measure", call_measure, 1, KIB },
     { "rebuild", call_rebuild, 0, KIB },
     { "check", call_check, 0, KIB },
+    { "compare", call_compare, 0, KIB },
     { "partition", call_partition, 1, KIB },
     { "pass", call_pass, 1, 64 * KIB },
 };

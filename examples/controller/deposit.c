@@ -3,8 +3,9 @@
  *   deposit OLD NEW [EN EM F]
  *
  * OLD is the store and NEW the version of document 01; EN, EM and F are the price, 12, 16 and 1024 where they are not given: a new entry has
- * no address, which spares 4 bytes, and F is in 256ths of a disk byte. It finds matches, measures the list found, hands it to pass and to partition, and rebuilds NEW from what partition wrote. Costs
- * are printed in disk bytes. Nothing goes to disk.
+ * no address, which spares 4 bytes, and F is in 256ths of a disk byte. It finds matches, measures the list found, hands it to pass and to
+ * partition, rebuilds NEW from what partition wrote, and compares the two lists written. Costs are printed in disk bytes. Nothing goes to
+ * disk.
  *
  * In order: errors; files; the list; the finder of matches; the calls; the report. Exit 0 where NEW came back, else 1 and one line.
  */
@@ -250,6 +251,15 @@ static int rebuilds(const struct deposit *d, const struct written *w)
     return same;
 }
 
+/* Whether two written lists, each with its stored block, give the same version; nothing is rebuilt for it. */
+static int same_version(const struct deposit *d, const struct written *a, const struct written *b)
+{
+    uint8_t area[ANSWER_BYTES];
+    compare(a->list, RECORD_BYTES * (size_t)a->answer.entries, b->list, RECORD_BYTES * (size_t)b->answer.entries, a->block, a->answer.stored,
+            b->block, b->answer.stored, d->store.at, d->store.length, area, sizeof area);
+    return answer_of("compare", area).entries == 1;
+}
+
 /* ---- The report ---- */
 
 /* A cost in disk bytes. */
@@ -288,9 +298,12 @@ static void make_deposit(const struct deposit *d, const char *name)
     struct written *passed = divided("pass", pass, d), *least = divided("partition", partition, d);
     if (!rebuilds(d, least))
         fail("what was rebuilt differs from %s", name);
+    if (!same_version(d, passed, least))
+        fail("the lists of pass and partition give different versions");
     print_report(d, found, passed->answer, least->answer);
     printf("\nrebuilt from %" PRIu32 " records, %" PRIu32 " stored bytes and the store: the same as %s\n", least->answer.entries,
            least->answer.stored, name);
+    printf("compared with the pass's list, which has %" PRIu32 " records: the same version\n", passed->answer.entries);
     free(passed->block), free(passed);
     free(least->block), free(least);
 }

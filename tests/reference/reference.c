@@ -1,8 +1,8 @@
-/* reference.c - the five calls of document 01, with costs in 256ths of a disk byte and a price for new entries and one for matches
- * (document 02, S-1 and S-2), a second time, in plain C.
+/* reference.c - the calls of document 01, with costs in 256ths of a disk byte and a price for new entries and one for matches (document 02,
+ * S-1 and S-2), and compare (S-3), a second time, in plain C.
  *
- * In order: limits; reading and writing of fields; the checks of the inputs; the cost; measure, rebuild and check; the least
- * choice; the pass; what partition and pass write. It shares no line with the library and takes nothing from its header.
+ * In order: limits; reading and writing of fields; the checks of the inputs; the cost; measure, rebuild and check; compare; the
+ * least choice; the pass; what partition and pass write. It shares no line with the library and takes nothing from its header.
  */
 #include "reference.h"
 
@@ -197,7 +197,7 @@ uint32_t ref_measure(uint32_t en, uint32_t em, uint32_t f,
     return give(&a, answer);
 }
 
-/* The walk of rebuild and check, 10 included. */
+/* The walk of rebuild, check and compare, 10 included. */
 static struct answer walk_with_block(const struct inputs *in, size_t block_len)
 {
     const uint32_t fault = bad_length(in);
@@ -260,6 +260,70 @@ uint32_t ref_check(const uint8_t *list, size_t list_len,
     struct answer a = walk_with_block(&in, block_len);
     if (a.number == 0)
         a = refused(k < a.entries ? 0 : 11, 0);
+    return give(&a, answer);
+}
+
+/* ---- Compare ---- */
+
+/* A version as it is read: what is left of the record begun, the records after it, and the stored bytes after it. */
+struct reader {
+    const uint8_t *bytes;
+    uint32_t left;
+    const uint8_t *records, *block;
+};
+
+/* Begins the next record. */
+static void begin_record(struct reader *r, const uint8_t *store)
+{
+    r->left = size_of(r->records, 0);
+    if (r->records[0] == NEW) {
+        r->bytes = r->block;
+        r->block += r->left;
+    } else {
+        r->bytes = store + address_of(r->records, 0);
+    }
+    r->records += RECORD;
+}
+
+/* Whether two versions of so many bytes are the same: as many bytes at a time as neither leaves its record. */
+static int same_version(struct reader a, struct reader b, uint32_t whole, const uint8_t *store)
+{
+    while (whole > 0) {
+        if (a.left == 0)
+            begin_record(&a, store);
+        if (b.left == 0)
+            begin_record(&b, store);
+        const uint32_t part = a.left < b.left ? a.left : b.left;
+        if (memcmp(a.bytes, b.bytes, part) != 0)
+            return 0;
+        a.bytes += part, a.left -= part;
+        b.bytes += part, b.left -= part;
+        whole -= part;
+    }
+    return 1;
+}
+
+uint32_t ref_compare(const uint8_t *first, size_t first_len,
+                     const uint8_t *second, size_t second_len,
+                     const uint8_t *first_block, size_t first_block_len,
+                     const uint8_t *second_block, size_t second_block_len,
+                     const uint8_t *store, size_t store_len,
+                     uint8_t *answer, size_t answer_len)
+{
+    if (answer_len < ANSWER_LEAST)
+        return 9;
+    const struct inputs one = { .list = first, .list_len = first_len, .store = store, .store_len = store_len, .has_store = 1 };
+    const struct inputs other = { .list = second, .list_len = second_len, .store = store, .store_len = store_len, .has_store = 1 };
+    struct answer a = walk_with_block(&one, first_block_len);
+    const uint32_t whole = a.whole;
+    if (a.number == 0)
+        a = walk_with_block(&other, second_block_len);
+    if (a.number == 0) {
+        const struct reader x = { .records = first, .block = first_block }, y = { .records = second, .block = second_block };
+        const int same = whole == a.whole && same_version(x, y, whole, store);
+        a = refused(0, 0);
+        a.entries = (uint32_t)same;
+    }
     return give(&a, answer);
 }
 

@@ -1,5 +1,5 @@
-/* reference.h - the five calls of document 01, with costs in 256ths of a disk byte and a price for new entries and one for matches
- * (document 02, S-1 and S-2), a second time, in plain C.
+/* reference.h - the calls of document 01, with costs in 256ths of a disk byte and a price for new entries and one for matches (document 02,
+ * S-1 and S-2), and compare (S-3), a second time, in plain C.
  *
  * Scope: what the differential test compares the library with, and what the benchmark takes for its baseline. The calls have
  * the signatures of controller.h, with the prefix ref_; areas, answer area, numbers and their order are those of document 01.
@@ -29,6 +29,14 @@ uint32_t ref_check(const uint8_t *list, size_t list_len,
                    const uint8_t *store, size_t store_len,
                    uint32_t k,
                    uint8_t *answer, size_t answer_len);
+
+/* Whether two lists, with their stored blocks and one store, give the same version. */
+uint32_t ref_compare(const uint8_t *first, size_t first_len,
+                     const uint8_t *second, size_t second_len,
+                     const uint8_t *first_block, size_t first_block_len,
+                     const uint8_t *second_block, size_t second_block_len,
+                     const uint8_t *store, size_t store_len,
+                     uint8_t *answer, size_t answer_len);
 
 /* The least choice, its list and its stored block. */
 uint32_t ref_partition(uint32_t en, uint32_t em, uint32_t f,

@@ -64,7 +64,7 @@ returns-3 c =
     let fine₂ = fine-of-through (inputsRuling (g .second .now) (g .second-block .now) (g .store .now)) (recordsOf (g .second .now)) (c .before .before .before .before .before .w .given .0 .0) (sym (c .before .before .before .before .before .before .before .accept2 .ensures) ∙ c .before .before .before .before .before .w .given .1) in
     let readable₁ = readable-of-inputs (g .first .now) (g .first-block .now) (g .store .now) (fine₁ .0) in
     let readable₂ = readable-of-inputs (g .second .now) (g .second-block .now) (g .store .now) (fine₂ .0) in
-    let differ : whole (recordsOf (g .first .now)) ≡ whole (recordsOf (g .second .now)) → ⊥ = λ e. c .before .if1 .taken (ap (λ (t : Totals). t .whole) (fine₁ .1) ∙ e ∙ sym (ap (λ (t : Totals). t .whole) (fine₂ .1))) in
+    let differ : whole (recordsOf (g .first .now)) ≡ whole (recordsOf (g .second .now)) → ⊥ = λ e. omega (arith, c .before .if1 .taken, ap (λ (t : Totals). t .whole) (fine₁ .1), ap (λ (t : Totals). t .whole) (fine₂ .1), e) in
     rw (compared-fine (g .first .now) (g .second .now) (g .first-block .now) (g .second-block .now) (g .store .now) (fine₁ .0) (fine₂ .0), no-of-lengths (g .first .now) (g .second .now) (g .first-block .now) (g .second-block .now) (g .store .now) (readable₁ .1) (readable₂ .1) differ) (c .entries-only .ensures)
 
 is-prefix-requires : tie.Need-is-prefix-requires
