@@ -24,20 +24,22 @@ use Rattle.walk.proofs.Equality.{same-refl, same-of-eq, not-same, same-sym}
 use Rattle.price.specs.declared.Price.{Price}
 use Rattle.price.specs.Price.{ratesOf}
 use Rattle.area.proofs.Filling.{front}
-use Rattle.choice.specs.Choice.{listOf}
+use Rattle.choice.specs.Choice.{Bit, IsChoice, listOf}
 use Rattle.choice.proofs.Least.{least-fits}
 use Rattle.admit.specs.Admit.{partitionRuling}
 use Rattle.admit.proofs.Admitting.{Sound, sound-of-fine}
-use Rattle.writer.specs.Decide.{figures}
+use Rattle.writer.specs.Decide.{figures, Decided}
 use Rattle.writer.proofs.Deciding.{decided-answer, list-handed-on, block-handed-on}
 use Rattle.show.specs.Check.{inputsRuling}
 use Rattle.show.proofs.Accepting.{readable-of-inputs}
 use Rattle.rebuild.specs.Rebuild.{rebuildRuling}
 use Rattle.compare.specs.Compare.{versionOf, yesOrNo, saysYes, compared}
 use Rattle.compare.proofs.Comparing.{compared-fine}
-use Rattle.call_partition.specs.Partition.{leastOf, Partitioned}
+use Rattle.call_partition.specs.Partition.{leastOf}
+use Rattle.linear.proofs.Theorems.{pass-holds}
+use Rattle.call_pass.specs.Pass.{passChoiceOf, passLooksOf}
 use Rattle.demand.specs.Demand.{Call, Rebuilding, writtenList, writtenBlock}
-use Rattle.demand.specs.Comparing.{Rebuilds, writtenVersion, Exactly, ComparingLaws}
+use Rattle.demand.specs.Comparing.{Rebuilds, writtenVersion, ComparingLaws}
 use Rattle.demand.proofs.WrittenList.{whole-written, inputs-accepted, rebuilt-written}
 
 fine-of-accepts : (q : Ruling) (x : Figures) → Accepts (answer q x) → q ≡ Fine
@@ -61,60 +63,62 @@ module _ (list block st : List ℕ) (x : Rebuilding) (h : Rebuilds list block st
   written-version : writtenVersion x ≡ versionOf list block st
   written-version = rw (rw rebuild-fine at (h .made .area-after)) (front (figuresIn (x .answer) .whole) (versionOf list block st) (x .before) length-told)
 
-as-rebuilt : (first second block₁ block₂ st : List ℕ) (x y : Rebuilding) → Rebuilds first block₁ st x → Rebuilds second block₂ st y
-    → Exactly (compared first second block₁ block₂ st) (writtenVersion x ≡ writtenVersion y)
-as-rebuilt first second block₁ block₂ st x y h k =
-    let fine = compared-fine first second block₁ block₂ st (inputs-fine first block₁ st x h) (inputs-fine second block₂ st y k) in
-    let v = written-version first block₁ st x h in
-    let w = written-version second block₂ st y k in
-    record {
-      yes-where = λ e. fine ∙ ap (λ (t : Bool). Accepted (yesOrNo t)) (same-of-eq (versionOf first block₁ st) (versionOf second block₂ st) (sym v ∙ e ∙ w));
-      no-elsewhere = λ d. fine ∙ ap (λ (t : Bool). Accepted (yesOrNo t)) (not-same (versionOf first block₁ st) (versionOf second block₂ st) (λ e. d (v ∙ e ∙ sym w)));
-    }
+twice : (q : Ruling) (x : Figures) → answer (q then q) x ≡ answer q x
+twice Fine x = refl
+twice (Stop r) x = refl
 
-itself : (list block st : List ℕ) → compared list list block block st ≡ answer (inputsRuling list block st) (yesOrNo true)
-itself list block st = rw (same-refl (versionOf list block st)) (twice (inputsRuling list block st))
-  where
-    twice : (q : Ruling) → answer (q then q) (yesOrNo true) ≡ answer q (yesOrNo true)
-    twice Fine = refl
-    twice (Stop r) = refl
-
-either-order : (first second block₁ block₂ st : List ℕ) → inputsRuling first block₁ st ≡ Fine → inputsRuling second block₂ st ≡ Fine
-    → compared first second block₁ block₂ st ≡ compared second first block₂ block₁ st
-either-order first second block₁ block₂ st e f =
-    compared-fine first second block₁ block₂ st e f
-    ∙ ap (λ (t : Bool). Accepted (yesOrNo t)) (same-sym (versionOf first block₁ st) (versionOf second block₂ st))
-    ∙ sym (compared-fine second first block₂ block₁ st f e)
-
--- partition's list of the version that rebuild wrote of another
-module _ (price : Price) (handed other block st : List ℕ) (x : Call) (y : Rebuilding) (h : Rebuilds other block st y)
-    (made : Partitioned price handed (writtenVersion y) st (x .before) (x .answer) (x .after)) (accepted : Accepts (x .answer)) where
+-- a call that decides for a choice, of the version that rebuild wrote of another list
+module _ (price : Price) (handed other block st : List ℕ) (x : Call) (y : Rebuilding) (h : Rebuilds other block st y) (c : List Bit) (looks : ℕ)
+    (made : Decided (partitionRuling price handed (writtenVersion y) st (x .before)) (ratesOf price) handed (writtenVersion y) c looks (x .before) (x .answer) (x .after))
+    (accepted : Accepts (x .answer)) where
   abbrev v : List ℕ
   v = writtenVersion y
 
   abbrev l : List Record
-  l = listOf (recordsOf handed) (leastOf price handed)
+  l = listOf (recordsOf handed) c
 
   fine : partitionRuling price handed v st (x .before) ≡ Fine
-  fine = fine-of-accepts (partitionRuling price handed v st (x .before)) (figures (ratesOf price) l 0) (rw (made .answered) at accepted)
+  fine = fine-of-accepts (partitionRuling price handed v st (x .before)) (figures (ratesOf price) l looks) (rw (made .answered) at accepted)
 
   sound : Sound price handed v st (length (x .before .choice)) (length (x .before .list)) (length (x .before .block))
   sound = sound-of-fine price handed v st (length (x .before .choice)) (length (x .before .list)) (length (x .before .block)) fine
 
-  list-is : writtenList x ≡ encode l
-  list-is = list-handed-on made fine (ap (λ (a : Answer). 12 * figuresIn a .entries) (decided-answer made fine))
+  module _ (is-choice : IsChoice (recordsOf handed) c) where
+    list-is : writtenList x ≡ encode l
+    list-is = list-handed-on made fine (ap (λ (a : Answer). 12 * figuresIn a .entries) (decided-answer made fine))
 
-  block-is : writtenBlock x ≡ blockOf l v
-  block-is = block-handed-on made fine (ap (λ (a : Answer). figuresIn a .stored) (decided-answer made fine)) (omega (arith, whole-written sound (leastOf price handed) (least-fits (ratesOf price) (recordsOf handed))))
+    block-is : writtenBlock x ≡ blockOf l v
+    block-is = block-handed-on made fine (ap (λ (a : Answer). figuresIn a .stored) (decided-answer made fine)) (omega (arith, whole-written sound c is-choice))
 
-  version-is : versionOf (encode l) (blockOf l v) st ≡ v
-  version-is = ap (λ (k : List Record). rebuilt k (blockOf l v) st) (records-encode l) ∙ rebuilt-written sound (leastOf price handed) (least-fits (ratesOf price) (recordsOf handed))
+    version-is : versionOf (encode l) (blockOf l v) st ≡ v
+    version-is = ap (λ (k : List Record). rebuilt k (blockOf l v) st) (records-encode l) ∙ rebuilt-written sound c is-choice
 
-  of-partition : compared other (writtenList x) block (writtenBlock x) st ≡ saysYes
-  of-partition =
-      rw (list-is, block-is)
-      (compared-fine other (encode l) block (blockOf l v) st (inputs-fine other block st y h) (inputs-accepted sound (leastOf price handed) (least-fits (ratesOf price) (recordsOf handed)))
-      ∙ ap (λ (t : Bool). Accepted (yesOrNo t)) (same-of-eq (versionOf other block st) (versionOf (encode l) (blockOf l v) st) (sym (written-version other block st y h) ∙ sym version-is)))
+    same-as-written : compared other (writtenList x) block (writtenBlock x) st ≡ saysYes
+    same-as-written =
+        rw (list-is, block-is)
+        (compared-fine other (encode l) block (blockOf l v) st (inputs-fine other block st y h) (inputs-accepted sound c is-choice)
+        ∙ ap (λ (t : Bool). Accepted (yesOrNo t)) (same-of-eq (versionOf other block st) (versionOf (encode l) (blockOf l v) st) (sym (written-version other block st y h) ∙ sym version-is)))
 
 pub comparing-laws : ComparingLaws
-comparing-laws = record { as-rebuilt = as-rebuilt; itself = itself; either-order = either-order; of-partition = of-partition }
+comparing-laws =
+    record {
+      as-rebuilt = λ first second block₁ block₂ st x y h k.
+          let fine = compared-fine first second block₁ block₂ st (inputs-fine first block₁ st x h) (inputs-fine second block₂ st y k) in
+          let v = written-version first block₁ st x h in
+          let w = written-version second block₂ st y k in
+          record {
+            yes-where = λ e. fine ∙ ap (λ (t : Bool). Accepted (yesOrNo t)) (same-of-eq (versionOf first block₁ st) (versionOf second block₂ st) (sym v ∙ e ∙ w));
+            no-elsewhere = λ d. fine ∙ ap (λ (t : Bool). Accepted (yesOrNo t)) (not-same (versionOf first block₁ st) (versionOf second block₂ st) (λ e. d (v ∙ e ∙ sym w)));
+          };
+      itself = λ list block st. rw (same-refl (versionOf list block st)) (twice (inputsRuling list block st) (yesOrNo true));
+      either-order = λ first second block₁ block₂ st e f.
+          compared-fine first second block₁ block₂ st e f
+          ∙ ap (λ (t : Bool). Accepted (yesOrNo t)) (same-sym (versionOf first block₁ st) (versionOf second block₂ st))
+          ∙ sym (compared-fine second first block₂ block₁ st f e);
+      of-partition = λ price handed other block st x y h made accepted.
+          same-as-written price handed other block st x y h (leastOf price handed) 0 made accepted (least-fits (ratesOf price) (recordsOf handed));
+      of-pass = λ price handed other block st x y h made accepted.
+          let s = sound price handed other block st x y h (passChoiceOf price handed) (passLooksOf price handed) (made .decided) accepted in
+          same-as-written price handed other block st x y h (passChoiceOf price handed) (passLooksOf price handed) (made .decided) accepted
+          (pass-holds (ratesOf price) (recordsOf handed) (s .well-formed .sized) (s .well-formed .apart) .choice);
+    }

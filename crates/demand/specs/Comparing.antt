@@ -1,5 +1,5 @@
 -- The laws of compare, document 02: "It says yes exactly when both rebuild the same bytes", of rebuild's own writing; a list and itself; the order of the
--- two; and partition's list beside any other of the same version.
+-- two; and what partition and pass wrote, beside any other list of the same version.
 -- Assumes nothing.
 use Prim.Native.Nat.{ℕ}
 use mathlib.Core.Path.{_≡_}
@@ -14,6 +14,7 @@ use Rattle.show.specs.Check.{inputsRuling}
 use Rattle.rebuild.specs.Rebuild.{Rebuilt}
 use Rattle.compare.specs.Compare.{yesOrNo, saysYes, saysNo, compared}
 use Rattle.call_partition.specs.Partition.{Partitioned}
+use Rattle.call_pass.specs.Pass.{PassMade}
 use Rattle.demand.specs.Demand.{Call, Rebuilding, writtenList, writtenBlock}
 
 -- the call x is one of rebuild, and accepted
@@ -42,4 +43,8 @@ pub record ComparingLaws : Type 0 where
   -- a list, the version that rebuild wrote of it, and what partition wrote of that version and the store, whichever list it was handed: yes
   pub of-partition : (price : Price) (handed other block st : List ℕ) (x : Call) (y : Rebuilding) → Rebuilds other block st y
       → Partitioned price handed (writtenVersion y) st (x .before) (x .answer) (x .after) → Accepts (x .answer)
+      → compared other (writtenList x) block (writtenBlock x) st ≡ saysYes
+  -- and what pass wrote: yes
+  pub of-pass : (price : Price) (handed other block st : List ℕ) (x : Call) (y : Rebuilding) → Rebuilds other block st y
+      → PassMade price handed (writtenVersion y) st (x .before) (x .answer) (x .after) → Accepts (x .answer)
       → compared other (writtenList x) block (writtenBlock x) st ≡ saysYes
