@@ -81,65 +81,63 @@ module _ (list block st : List ℕ) where
   pub to-come-none : (c : Cursor) → length list / 12 ≤ c .place → toCome list block st c ≡ []
   to-come-none c h = rw (recordsFrom-none list (length list / 12) (c .place) h) (drop-nil (c .within))
 
-  -- r is the cursor's record
-  module _ (c : Cursor) (at : At list block st c) (r : Record) (is : r ≡ recordOf (rowAt list (c .place))) (h : c .place < length list / 12) where
-    abbrev others : List Record
-    others = recordsFrom list (length list / 12) (c .place + 1)
+-- the cursor's record, where it has one
+module _ {list block st : List ℕ} {c : Cursor} (at : At list block st c) {r : Record} (is : r ≡ recordOf (rowAt list (c .place))) (h : c .place < length list / 12) where
+  abbrev others : List Record
+  others = recordsFrom list (length list / 12) (c .place + 1)
 
-    split : ahead list c ≡ r ∷ others
-    split = recordsFrom-next list (length list / 12) (c .place) h ∙ ap (λ (x : Record). x ∷ others) (sym is)
+  split : ahead list c ≡ r ∷ others
+  split = recordsFrom-next list (length list / 12) (c .place) h ∙ ap (λ (x : Record). x ∷ others) (sym is)
 
-    pub cursor-part : Lies (partOf (c .before) r) block st
-    cursor-part = lies-first r others block st (c .before) (rw split at (at .inside)) (rw split at (at .before-is))
+  pub cursor-part : Lies (partOf (c .before) r) block st
+  cursor-part = lies-first r others block st (c .before) (rw split at (at .inside)) (rw split at (at .before-is))
 
-    pub cursor-within : c .within < sizeOf r
-    cursor-within = rw split at (at .passed)
+  pub cursor-within : c .within < sizeOf r
+  cursor-within = rw split at (at .passed)
 
-    pub cursor-before : c .before + stored (r ∷ []) ≤ length block
-    cursor-before = omega (arith, at .before-is, ap stored split, stored-cons r others)
+  pub cursor-before : c .before + stored (r ∷ []) ≤ length block
+  cursor-before = omega (arith, at .before-is, ap stored split, stored-cons r others)
 
-    pub length-left : length (left r c block st) ≡ sizeOf r - c .within
-    length-left = rw (left-is r c block st, length-drop (c .within) (bytesIn block st (partOf (c .before) r)), length-part r (c .before) block st cursor-part)
+  pub length-left : length (left r c block st) ≡ sizeOf r - c .within
+  length-left = rw (left-is r c block st, length-drop (c .within) (bytesIn block st (partOf (c .before) r)), length-part r (c .before) block st cursor-part)
 
-    -- what is to come is what is left of the record, and what the others rebuild
-    abbrev after : List ℕ
-    after = rebuilt others (drop (c .before + stored (r ∷ [])) block) st
+  -- what is to come is what is left of the record, and what the others rebuild
+  abbrev after : List ℕ
+  after = rebuilt others (drop (c .before + stored (r ∷ [])) block) st
 
-    to-come-left : toCome list block st c ≡ left r c block st ++ after
-    to-come-left =
-        ap (λ (l : List Record). drop (c .within) (rebuilt l (drop (c .before) block) st)) split
-        ∙ ap (drop (c .within)) (rebuilt-cons r others block st (c .before))
-        ∙ drop-append-le (c .within) (bytesIn block st (partOf (c .before) r)) after (omega (arith, cursor-within, length-part r (c .before) block st cursor-part))
-        ∙ ap (λ (x : List ℕ). x ++ after) (sym (left-is r c block st))
+  to-come-left : toCome list block st c ≡ left r c block st ++ after
+  to-come-left =
+      ap (λ (l : List Record). drop (c .within) (rebuilt l (drop (c .before) block) st)) split
+      ∙ ap (drop (c .within)) (rebuilt-cons r others block st (c .before))
+      ∙ drop-append-le (c .within) (bytesIn block st (partOf (c .before) r)) after (omega (arith, cursor-within, length-part r (c .before) block st cursor-part))
+      ∙ ap (λ (x : List ℕ). x ++ after) (sym (left-is r c block st))
 
-    pub to-come-least : length (left r c block st) ≤ length (toCome list block st c)
-    to-come-least = omega (arith, ap length to-come-left, length-append (left r c block st) after)
+  pub left-most : length (left r c block st) ≤ length (toCome list block st c)
+  left-most = omega (arith, ap length to-come-left, length-append (left r c block st) after)
 
-    module _ (k : ℕ) (i : k ≤ length (left r c block st)) where
-      pub to-come-take : take k (toCome list block st c) ≡ take k (left r c block st)
-      to-come-take = ap (take k) to-come-left ∙ take-append-le k (left r c block st) after i
+  -- k of the bytes that are left
+  module _ (k : ℕ) (i : k ≤ length (left r c block st)) where
+    pub to-come-take : take k (toCome list block st c) ≡ take k (left r c block st)
+    to-come-take = ap (take k) to-come-left ∙ take-append-le k (left r c block st) after i
 
-      -- the cursor k bytes further
-      pub to-come-drop : drop k (toCome list block st c) ≡ toCome list block st (moved r c k)
-      to-come-drop = go (ltb (c .within + k) (sizeOf r)) refl
-        where
-          go : (t : Bool) → ltb (c .within + k) (sizeOf r) ≡ t
-              → drop k (toCome list block st c) ≡ toCome list block st (cond t (further c k) (behind r c))
-          go true e = drop-drop k (c .within) (rebuilt (ahead list c) (drop (c .before) block) st)
-          go false e =
-              ap (drop k) to-come-left ∙ drop-at (left r c block st) after k (omega (arith, length-left, cursor-within, ltb-false (c .within + k) (sizeOf r) e))
+    pub to-come-drop : drop k (toCome list block st c) ≡ toCome list block st (moved r c k)
+    to-come-drop = go (ltb (c .within + k) (sizeOf r)) refl
+      where
+        go : (t : Bool) → ltb (c .within + k) (sizeOf r) ≡ t → drop k (toCome list block st c) ≡ toCome list block st (cond t (further c k) (behind r c))
+        go true e = drop-drop k (c .within) (rebuilt (ahead list c) (drop (c .before) block) st)
+        go false e =
+            ap (drop k) to-come-left ∙ drop-at (left r c block st) after k (omega (arith, length-left, cursor-within, ltb-false (c .within + k) (sizeOf r) e))
 
-      pub at-moved : At list block st (moved r c k)
-      at-moved = go (ltb (c .within + k) (sizeOf r)) refl
-        where
-          go : (t : Bool) → ltb (c .within + k) (sizeOf r) ≡ t
-              → At list block st (cond t (further c k) (behind r c))
-          go true e = record { sized = at .sized; inside = at .inside; before-is = at .before-is; passed = rw split (ltb-true (c .within + k) (sizeOf r) e) }
-          go false e =
-              let sized : Sized (r ∷ others) = rw split at (at .sized) in
-              record {
-                sized = sized .1;
-                inside = inside-rest r others st (rw split at (at .inside));
-                before-is = omega (arith, at .before-is, ap stored split, stored-cons r others);
-                passed = passed-none others (sized .1);
-              }
+    pub at-moved : At list block st (moved r c k)
+    at-moved = go (ltb (c .within + k) (sizeOf r)) refl
+      where
+        go : (t : Bool) → ltb (c .within + k) (sizeOf r) ≡ t → At list block st (cond t (further c k) (behind r c))
+        go true e = record { sized = at .sized; inside = at .inside; before-is = at .before-is; passed = rw split (ltb-true (c .within + k) (sizeOf r) e) }
+        go false e =
+            let sized : Sized (r ∷ others) = rw split at (at .sized) in
+            record {
+              sized = sized .1;
+              inside = inside-rest r others st (rw split at (at .inside));
+              before-is = omega (arith, at .before-is, ap stored split, stored-cons r others);
+              passed = passed-none others (sized .1);
+            }

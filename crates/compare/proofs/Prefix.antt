@@ -1,6 +1,6 @@
 -- Laws of prefixes: a prefix of equal length is the same bytes; and the first k bytes of two lists can be looked at by themselves.
 -- Assumes nothing.
-use Prim.Native.Nat.{ℕ, zero, suc, _-_, _≤_}
+use Prim.Native.Nat.{ℕ, zero, suc, _≤_}
 use native.Mathlib.Omega.{arith}
 use mathlib.Core.Path.{_≡_, refl, _∙_, ap}
 use mathlib.Core.Bool.{Bool, true, false, _&&_}
@@ -28,7 +28,3 @@ prefix-cut (suc k) (x ∷ xs) (y ∷ ys) h i =
     and-assoc : (a b c : Bool) → a && (b && c) ≡ (a && b) && c
     and-assoc true b c = refl
     and-assoc false b c = refl
-
--- the front of two lists, as a part of each from 0 to k
-pub same-cut : (k : ℕ) (p q xs ys : List ℕ) → p ≡ xs → q ≡ ys → sameBytes (take (k - 0) p) (take (k - 0) q) ≡ sameBytes (take k xs) (take k ys)
-same-cut k p q xs ys e f = let z : k - 0 ≡ k = omega arith in rw (z, e, f)

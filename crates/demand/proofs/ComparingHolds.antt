@@ -34,7 +34,7 @@ use Rattle.show.specs.Check.{inputsRuling}
 use Rattle.show.proofs.Accepting.{readable-of-inputs}
 use Rattle.rebuild.specs.Rebuild.{rebuildRuling}
 use Rattle.compare.specs.Compare.{versionOf, yesOrNo, saysYes, compared}
-use Rattle.compare.proofs.Comparing.{compared-fine}
+use Rattle.compare.proofs.Answering.{compared-fine}
 use Rattle.call_partition.specs.Partition.{leastOf}
 use Rattle.linear.proofs.Theorems.{pass-holds}
 use Rattle.call_pass.specs.Pass.{passChoiceOf, passLooksOf}

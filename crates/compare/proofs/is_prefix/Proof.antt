@@ -1,16 +1,13 @@
 -- `compare::is_prefix` meets its contract. The invariant: `Side-by-side` says that both cursors stand in their lists and that what is to come decides the
 -- answer. The measure is the number of bytes of the first version that are to come. Assumes nothing.
-use Prim.Native.Nat.{_≤_}
 use native.Mathlib.Omega.{arith}
-use mathlib.Core.Path.{sym, _∙_, ap}
+use mathlib.Core.Path.{sym, _∙_}
 use borrow.Author.Tests.{not-true, not-false}
 use lib.ListN.{length}
 use Rattle.format.specs.Record.{recordsOf}
 use Rattle.format.proofs.Rebuilding.{stored-most}
-use Rattle.compare.specs.Cursor.{left}
-use Rattle.compare.proofs.Cursors.{toCome, cursor-part, cursor-within, cursor-before, length-left}
-use Rattle.compare.proofs.Prefix.{same-cut}
-use Rattle.compare.proofs.Comparing.{Side-by-side, side-by-side-front, side-by-side-next, second-goes-on, some-to-come, fewer-first, prefix-of-difference, prefix-of-end}
+use Rattle.compare.proofs.Cursors.{toCome, cursor-part, cursor-within, cursor-before}
+use Rattle.compare.proofs.Comparing.{Side-by-side, side-by-side-front, second-goes-on, prefix-of-end, turn, also-goes-on, fits-a, fits-b, turn-less, prefix-of-difference, side-by-side-next}
 use borrow.Author.Needs.{needs}
 use Rattle.compare.proofs.is_prefix.Statement.{statement}
 use Rattle.compare.proofs.is_prefix.Tie as tie
@@ -31,28 +28,21 @@ record-at-requires c κs = search needs
 
 record-at-requires-2 : tie.Need-record-at-requires-2 Inv-loop μ-loop
 record-at-requires-2 c κs =
-    let g = c .before .before .before .before .before .before .before .before .before .args in
-    let l = c .before .before .before .loop in
-    let hx = c .before .if1 .taken in
-    let hy = second-goes-on (g .first .now) (g .second .now) (g .first-block .now) (g .second-block .now) (g .store .now) (l .x) (l .y) (l .inv) hx in
-    omega (arith, hy)
+    omega (arith, second-goes-on (c .before .before .before .loop .inv) (c .before .if1 .taken))
 
 left-of-requires : tie.Need-left-of-requires Inv-loop μ-loop
 left-of-requires c κs =
-    let g = c .before .before .before .before .before .before .before .before .before .before .args in
-    let l = c .before .before .before .before .loop in
-    let hx = c .before .before .if1 .taken in
-    let a = c .before .record-at in
-    (cursor-part (g .first .now) (g .first-block .now) (g .store .now) (l .x) (l .inv .at-first) (a .result) (a .ensures) hx, omega (arith, cursor-within (g .first .now) (g .first-block .now) (g .store .now) (l .x) (l .inv .at-first) (a .result) (a .ensures) hx))
+    let at = c .before .before .before .before .loop .inv .at-first in
+    let a = c .before .record-at .ensures in
+    let h = c .before .before .if1 .taken in
+    (cursor-part at a h, omega (arith, cursor-within at a h))
 
 left-of-requires-2 : tie.Need-left-of-requires-2 Inv-loop μ-loop
 left-of-requires-2 c κs =
-    let g = c .before .before .before .before .before .before .before .before .before .before .before .args in
-    let l = c .before .before .before .before .before .loop in
-    let hx = c .before .before .before .if1 .taken in
-    let hy = second-goes-on (g .first .now) (g .second .now) (g .first-block .now) (g .second-block .now) (g .store .now) (l .x) (l .y) (l .inv) hx in
-    let b = c .before .record-at2 in
-    (cursor-part (g .second .now) (g .second-block .now) (g .store .now) (l .y) (l .inv .at-second) (b .result) (b .ensures) hy, omega (arith, cursor-within (g .second .now) (g .second-block .now) (g .store .now) (l .y) (l .inv .at-second) (b .result) (b .ensures) hy))
+    let at = c .before .before .before .before .before .loop .inv .at-second in
+    let b = c .before .record-at2 .ensures in
+    let h = second-goes-on (c .before .before .before .before .before .loop .inv) (c .before .before .before .if1 .taken) in
+    (cursor-part at b h, omega (arith, cursor-within at b h))
 
 shorter-requires : tie.Need-shorter-requires Inv-loop μ-loop
 shorter-requires c κs = search needs
@@ -80,79 +70,33 @@ same-requires c κs = search needs
 
 returns : tie.Need-returns Inv-loop μ-loop
 returns c =
-    let g = c .before .before .before .before .before .before .before .before .before .before .before .before .before .before .before .before .before .args in
-    let l = c .before .before .before .before .before .before .before .before .before .before .before .loop in
-    let hx = c .before .before .before .before .before .before .before .before .before .if1 .taken in
-    let hy = second-goes-on (g .first .now) (g .second .now) (g .first-block .now) (g .second-block .now) (g .store .now) (l .x) (l .y) (l .inv) hx in
-    let a = c .before .before .before .before .before .before .before .before .record-at in
-    let b = c .before .before .before .before .before .before .before .record-at2 in
-    let p = c .before .before .before .before .before .before .left-of in
-    let q = c .before .before .before .before .before .left-of2 in
-    let k = c .before .before .before .before .shorter in
-    let ka : k .result ≤ length (left (a .result) (l .x) (g .first-block .now) (g .store .now)) = omega (arith, k .ensures, ap length (p .ensures)) in
-    let kb : k .result ≤ length (left (b .result) (l .y) (g .second-block .now) (g .store .now)) = omega (arith, k .ensures, ap length (q .ensures)) in
-    let same = c .before .same in
-    sym (prefix-of-difference (g .first .now) (g .second .now) (g .first-block .now) (g .second-block .now) (g .store .now) (l .x) (l .y) (l .inv) (a .result) (b .result) (a .ensures) (b .ensures) hx hy (k .result) ka kb (sym (same .ensures ∙ same-cut (k .result) _ _ _ _ (p .ensures) (q .ensures)) ∙ not-true _ (c .if2 .taken)))
+    let t = turn (c .before .before .before .before .before .before .before .before .before .before .before .loop .inv) (c .before .before .before .before .before .before .before .before .before .if1 .taken) (c .before .before .before .before .before .before .before .before .record-at .ensures) (c .before .before .before .before .before .before .before .record-at2 .ensures) (c .before .before .before .before .before .before .left-of .ensures) (c .before .before .before .before .before .left-of2 .ensures) (c .before .before .before .before .shorter .ensures) in
+    sym (prefix-of-difference t (sym (c .before .same .ensures) ∙ not-true _ (c .if2 .taken)))
 
 advance-requires : tie.Need-advance-requires Inv-loop μ-loop
 advance-requires c κs =
-    let g = c .before .before .before .before .before .before .before .before .before .before .before .before .before .before .before .before .before .args in
+    let t = turn (c .before .before .before .before .before .before .before .before .before .before .before .loop .inv) (c .before .before .before .before .before .before .before .before .before .if1 .taken) (c .before .before .before .before .before .before .before .before .record-at .ensures) (c .before .before .before .before .before .before .before .record-at2 .ensures) (c .before .before .before .before .before .before .left-of .ensures) (c .before .before .before .before .before .left-of2 .ensures) (c .before .before .before .before .shorter .ensures) in
     let pre = c .before .before .before .before .before .before .before .before .before .before .before .before .before .before .before .before .before .pre in
-    let l = c .before .before .before .before .before .before .before .before .before .before .before .loop in
-    let hx = c .before .before .before .before .before .before .before .before .before .if1 .taken in
-    let a = c .before .before .before .before .before .before .before .before .record-at in
-    let p = c .before .before .before .before .before .before .left-of in
-    let k = c .before .before .before .before .shorter in
-    (omega (arith, k .ensures, ap length (p .ensures), length-left (g .first .now) (g .first-block .now) (g .store .now) (l .x) (l .inv .at-first) (a .result) (a .ensures) hx, cursor-within (g .first .now) (g .first-block .now) (g .store .now) (l .x) (l .inv .at-first) (a .result) (a .ensures) hx), omega (arith, hx, pre .first-most), omega (arith, cursor-before (g .first .now) (g .first-block .now) (g .store .now) (l .x) (l .inv .at-first) (a .result) (a .ensures) hx, pre .first-readable .block-fits, stored-most (recordsOf (g .first .now)), pre .first-readable .whole-most))
+    (fits-a t, omega (arith, t .goes-on, pre .first-most), omega (arith, cursor-before (t .side-by-side .at-first) (t .is-a) (t .goes-on), pre .first-readable .block-fits, stored-most (recordsOf (c .before .before .before .before .before .before .before .before .before .before .before .before .before .before .before .before .before .args .first .now)), pre .first-readable .whole-most))
 
 advance-requires-2 : tie.Need-advance-requires-2 Inv-loop μ-loop
 advance-requires-2 c κs =
-    let g = c .before .before .before .before .before .before .before .before .before .before .before .before .before .before .before .before .before .before .args in
+    let t = turn (c .before .before .before .before .before .before .before .before .before .before .before .before .loop .inv) (c .before .before .before .before .before .before .before .before .before .before .if1 .taken) (c .before .before .before .before .before .before .before .before .before .record-at .ensures) (c .before .before .before .before .before .before .before .before .record-at2 .ensures) (c .before .before .before .before .before .before .before .left-of .ensures) (c .before .before .before .before .before .before .left-of2 .ensures) (c .before .before .before .before .before .shorter .ensures) in
     let pre = c .before .before .before .before .before .before .before .before .before .before .before .before .before .before .before .before .before .before .pre in
-    let l = c .before .before .before .before .before .before .before .before .before .before .before .before .loop in
-    let hx = c .before .before .before .before .before .before .before .before .before .before .if1 .taken in
-    let hy = second-goes-on (g .first .now) (g .second .now) (g .first-block .now) (g .second-block .now) (g .store .now) (l .x) (l .y) (l .inv) hx in
-    let b = c .before .before .before .before .before .before .before .before .record-at2 in
-    let q = c .before .before .before .before .before .before .left-of2 in
-    let k = c .before .before .before .before .before .shorter in
-    (omega (arith, k .ensures, ap length (q .ensures), length-left (g .second .now) (g .second-block .now) (g .store .now) (l .y) (l .inv .at-second) (b .result) (b .ensures) hy, cursor-within (g .second .now) (g .second-block .now) (g .store .now) (l .y) (l .inv .at-second) (b .result) (b .ensures) hy), omega (arith, hy, pre .second-most), omega (arith, cursor-before (g .second .now) (g .second-block .now) (g .store .now) (l .y) (l .inv .at-second) (b .result) (b .ensures) hy, pre .second-readable .block-fits, stored-most (recordsOf (g .second .now)), pre .second-readable .whole-most))
+    (fits-b t, omega (arith, also-goes-on t, pre .second-most), omega (arith, cursor-before (t .side-by-side .at-second) (t .is-b) (also-goes-on t), pre .second-readable .block-fits, stored-most (recordsOf (c .before .before .before .before .before .before .before .before .before .before .before .before .before .before .before .before .before .before .args .second .now)), pre .second-readable .whole-most))
 
 loop-less : tie.Need-loop-less Inv-loop μ-loop
 loop-less c =
-    let g = c .before .before .before .before .before .before .before .before .before .before .before .before .before .before .before .before .before .before .before .args in
-    let l = c .before .before .before .before .before .before .before .before .before .before .before .before .before .loop in
-    let hx = c .before .before .before .before .before .before .before .before .before .before .before .if1 .taken in
-    let hy = second-goes-on (g .first .now) (g .second .now) (g .first-block .now) (g .second-block .now) (g .store .now) (l .x) (l .y) (l .inv) hx in
-    let a = c .before .before .before .before .before .before .before .before .before .before .record-at in
-    let b = c .before .before .before .before .before .before .before .before .before .record-at2 in
-    let p = c .before .before .before .before .before .before .before .before .left-of in
-    let q = c .before .before .before .before .before .before .before .left-of2 in
-    let k = c .before .before .before .before .before .before .shorter in
-    let ka : k .result ≤ length (left (a .result) (l .x) (g .first-block .now) (g .store .now)) = omega (arith, k .ensures, ap length (p .ensures)) in
-    let kb : k .result ≤ length (left (b .result) (l .y) (g .second-block .now) (g .store .now)) = omega (arith, k .ensures, ap length (q .ensures)) in
-    omega (arith, ap (λ z. length (toCome (g .first .now) (g .first-block .now) (g .store .now) z)) (c .before .advance .ensures), fewer-first (g .first .now) (g .second .now) (g .first-block .now) (g .second-block .now) (g .store .now) (l .x) (l .y) (l .inv) (a .result) (b .result) (a .ensures) (b .ensures) hx hy (k .result) ka kb, some-to-come (g .first .now) (g .second .now) (g .first-block .now) (g .second-block .now) (g .store .now) (l .x) (l .y) (l .inv) hx, k .ensures, ap length (p .ensures), ap length (q .ensures), length-left (g .first .now) (g .first-block .now) (g .store .now) (l .x) (l .inv .at-first) (a .result) (a .ensures) hx, cursor-within (g .first .now) (g .first-block .now) (g .store .now) (l .x) (l .inv .at-first) (a .result) (a .ensures) hx, length-left (g .second .now) (g .second-block .now) (g .store .now) (l .y) (l .inv .at-second) (b .result) (b .ensures) hy, cursor-within (g .second .now) (g .second-block .now) (g .store .now) (l .y) (l .inv .at-second) (b .result) (b .ensures) hy)
+    let t = turn (c .before .before .before .before .before .before .before .before .before .before .before .before .before .loop .inv) (c .before .before .before .before .before .before .before .before .before .before .before .if1 .taken) (c .before .before .before .before .before .before .before .before .before .before .record-at .ensures) (c .before .before .before .before .before .before .before .before .before .record-at2 .ensures) (c .before .before .before .before .before .before .before .before .left-of .ensures) (c .before .before .before .before .before .before .before .left-of2 .ensures) (c .before .before .before .before .before .before .shorter .ensures) in
+    rw (c .before .advance .ensures) (turn-less t)
 
 loop-again : tie.Need-loop-again Inv-loop μ-loop
 loop-again c =
-    let g = c .before .before .before .before .before .before .before .before .before .before .before .before .before .before .before .before .before .before .before .args in
-    let l = c .before .before .before .before .before .before .before .before .before .before .before .before .before .loop in
-    let hx = c .before .before .before .before .before .before .before .before .before .before .before .if1 .taken in
-    let hy = second-goes-on (g .first .now) (g .second .now) (g .first-block .now) (g .second-block .now) (g .store .now) (l .x) (l .y) (l .inv) hx in
-    let a = c .before .before .before .before .before .before .before .before .before .before .record-at in
-    let b = c .before .before .before .before .before .before .before .before .before .record-at2 in
-    let p = c .before .before .before .before .before .before .before .before .left-of in
-    let q = c .before .before .before .before .before .before .before .left-of2 in
-    let k = c .before .before .before .before .before .before .shorter in
-    let ka : k .result ≤ length (left (a .result) (l .x) (g .first-block .now) (g .store .now)) = omega (arith, k .ensures, ap length (p .ensures)) in
-    let kb : k .result ≤ length (left (b .result) (l .y) (g .second-block .now) (g .store .now)) = omega (arith, k .ensures, ap length (q .ensures)) in
-    let same = c .before .before .before .same in
-    rw (c .before .advance .ensures, c .advance2 .ensures) (side-by-side-next (g .first .now) (g .second .now) (g .first-block .now) (g .second-block .now) (g .store .now) (l .x) (l .y) (l .inv) (a .result) (b .result) (a .ensures) (b .ensures) hx hy (k .result) ka kb (sym (same .ensures ∙ same-cut (k .result) _ _ _ _ (p .ensures) (q .ensures)) ∙ not-false _ (c .before .before .if2 .left)))
+    let t = turn (c .before .before .before .before .before .before .before .before .before .before .before .before .before .loop .inv) (c .before .before .before .before .before .before .before .before .before .before .before .if1 .taken) (c .before .before .before .before .before .before .before .before .before .before .record-at .ensures) (c .before .before .before .before .before .before .before .before .before .record-at2 .ensures) (c .before .before .before .before .before .before .before .before .left-of .ensures) (c .before .before .before .before .before .before .before .left-of2 .ensures) (c .before .before .before .before .before .before .shorter .ensures) in
+    rw (c .before .advance .ensures, c .advance2 .ensures) (side-by-side-next t (sym (c .before .before .before .same .ensures) ∙ not-false _ (c .before .before .if2 .left)))
 
 returns-2 : tie.Need-returns-2 Inv-loop μ-loop
-returns-2 c =
-    let g = c .before .before .before .before .before .before .before .before .args in
-    let l = c .before .before .loop in
-    sym (prefix-of-end (g .first .now) (g .second .now) (g .first-block .now) (g .second-block .now) (g .store .now) (l .x) (l .y) (l .inv) (omega (arith, c .if1 .left)))
+returns-2 c = sym (prefix-of-end (c .before .before .loop .inv) (omega (arith, c .if1 .left)))
 
 pub is-prefix-spec : {M : Type 1} → statement M
 is-prefix-spec =
