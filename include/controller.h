@@ -233,7 +233,7 @@ uint32_t partition(uint32_t en, uint32_t em, uint32_t f,
  *   rules of docs/SPECIFICATION.md ("Pass"); one look at a record at a time, at most 2n - 1 of them for n records. It never stores a match
  *   that stands alone, which may be worth it where EN is less than EM.
  * Areas, writes, refuses, on refusal, returns: as for partition. answer also gives the looks. The list costs no less than partition's
- *   and no more than the one handed in. It is no faster: on 4,096 short records it takes five to fifteen times as long as partition. */
+ *   and no more than the one handed in. It is no faster: on 4,096 short records it takes five to twenty times as long as partition. */
 uint32_t pass(uint32_t en, uint32_t em, uint32_t f,
               const uint8_t *list, size_t list_len,
               const uint8_t *version, size_t version_len,

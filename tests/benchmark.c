@@ -321,7 +321,8 @@ int main(int count, char **arguments)
     }
     set_up();
     printf("Library and reference in turn, medians of 3 to %d samples; every buffer was written beforehand. EN %d, EM %d, F %d.\n"
-           "Records in turns are new, match, new, match, of one size; small ones have 1 to 128 bytes, new or match by chance.\n\n",
+           "Records in turns are new, match, new, match, of one size; small ones have 1 to 128 bytes, new or match by chance. The second list\n"
+           "of compare gives the same version, cut at other places: of a match behind a new record, half is stored with that.\n\n",
            SAMPLES, EN, EM, F);
     print_all_times();
     print_all_growth();
