@@ -3,18 +3,19 @@
 use Prim.Native.Nat.{ℕ, _*_}
 use native.Mathlib.Omega.{arith}
 use mathlib.Core.Path.{_≡_, refl, sym, _∙_, ap}
-use mathlib.Core.Bool.{Bool, true}
+use mathlib.Core.Bool.{Bool, true, false}
 use mathlib.Core.List.{List}
-use lib.Dec.{leb}
+use lib.Dec.{leb, ltb}
 use lib.ListN.{length}
-use Rattle.format.specs.declared.Fault.the-variants.{AreaTooShort}
+use Rattle.format.specs.declared.Fault.the-variants.{AreaTooShort, NoSuchRecord}
 use Rattle.format.specs.declared.Record.{Record}
+use Rattle.format.specs.declared.Refusal.{Refusal}
 use Rattle.format.specs.declared.Ruling.{Ruling}
 use Rattle.format.specs.declared.Ruling.the-variants.{Fine, Stop}
 use Rattle.format.specs.declared.Figures.{Figures}
 use Rattle.format.specs.declared.Answer.{Answer}
-use Rattle.format.specs.declared.Answer.the-variants.{Accepted}
-use Rattle.format.specs.Refusal.{need, _then_, answer, Accepts, lengthOnly, figuresIn}
+use Rattle.format.specs.declared.Answer.the-variants.{Accepted, Refused}
+use Rattle.format.specs.Refusal.{refuse, need, _then_, answer, Accepts, lengthOnly, figuresIn}
 use Rattle.format.specs.Record.{recordsOf, encode}
 use Rattle.format.specs.Meaning.{whole, blockOf, rebuilt}
 use Rattle.format.proofs.Rulings.{fine-of-then}
@@ -63,6 +64,12 @@ module _ (list block st : List ℕ) (x : Rebuilding) (h : Rebuilds list block st
   written-version : writtenVersion x ≡ versionOf list block st
   written-version = rw (rw rebuild-fine at (h .made .area-after)) (front (figuresIn (x .answer) .whole) (versionOf list block st) (x .before) length-told)
 
+-- a refusal of check that is not 11 is one of its other checks
+stop-of-check : (q : Ruling) (t : Bool) (r : Refusal) → answer (q then need t NoSuchRecord 0) (lengthOnly 0) ≡ Refused r → (r .fault ≡ NoSuchRecord → ⊥) → q ≡ Stop r
+stop-of-check Fine true r e h = absurd (let z : _≡_ {A = ℕ} 0 1 = cc in omega arith)
+stop-of-check Fine false r e h = absurd (h (let z : refuse NoSuchRecord 0 ≡ r = cc in ap (λ (x : Refusal). x .fault) (sym z)))
+stop-of-check (Stop x) t r e h = cc
+
 twice : (q : Ruling) (x : Figures) → answer (q then q) x ≡ answer q x
 twice Fine x = refl
 twice (Stop r) x = refl
@@ -102,6 +109,10 @@ module _ (price : Price) (handed other block st : List ℕ) (x : Call) (y : Rebu
 pub comparing-laws : ComparingLaws
 comparing-laws =
     record {
+      first-refused = λ first second block₁ block₂ st k r e h.
+          rw (stop-of-check (inputsRuling first block₁ st) (ltb k (length (recordsOf first))) r e h);
+      second-refused = λ first second block₁ block₂ st x k r m e h.
+          rw (inputs-fine first block₁ st x m, stop-of-check (inputsRuling second block₂ st) (ltb k (length (recordsOf second))) r e h);
       as-rebuilt = λ first second block₁ block₂ st x y h k.
           let fine = compared-fine first second block₁ block₂ st (inputs-fine first block₁ st x h) (inputs-fine second block₂ st y k) in
           let v = written-version first block₁ st x h in

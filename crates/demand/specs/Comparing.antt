@@ -1,16 +1,19 @@
--- The laws of compare, document 02: "It says yes exactly when both rebuild the same bytes", of rebuild's own writing; a list and itself; the order of the
--- two; and what partition and pass wrote, beside any other list of the same version.
+-- The laws of compare, document 02, by the contracts of the other calls: its refusals are check's; "It says yes exactly when both rebuild the same bytes",
+-- of rebuild's own writing; a list and itself; the order of the two; and what partition and pass wrote, beside any other list of the same version.
 -- Assumes nothing.
 use Prim.Native.Nat.{ℕ}
 use mathlib.Core.Path.{_≡_}
 use mathlib.Core.Bool.{true}
 use mathlib.Core.List.{List}
 use lib.ListN.{take}
+use Rattle.format.specs.declared.Fault.the-variants.{NoSuchRecord}
+use Rattle.format.specs.declared.Refusal.{Refusal}
 use Rattle.format.specs.declared.Answer.{Answer}
+use Rattle.format.specs.declared.Answer.the-variants.{Refused}
 use Rattle.format.specs.declared.Ruling.the-variants.{Fine}
 use Rattle.format.specs.Refusal.{Accepts, answer, figuresIn}
 use Rattle.price.specs.declared.Price.{Price}
-use Rattle.show.specs.Check.{inputsRuling}
+use Rattle.show.specs.Check.{inputsRuling, checked}
 use Rattle.rebuild.specs.Rebuild.{Rebuilt}
 use Rattle.compare.specs.Compare.{yesOrNo, saysYes, saysNo, compared}
 use Rattle.call_partition.specs.Partition.{Partitioned}
@@ -32,6 +35,12 @@ pub record Exactly (a : Answer) (P : Type 0) : Type 0 where
   pub no-elsewhere : (P → ⊥) → a ≡ saysNo
 
 pub record ComparingLaws : Type 0 where
+  -- "A refusal is the one that check gives without a place k, first list first": but for check's 11, whatever k it was asked for; of the second list where
+  -- rebuild accepts the first
+  pub first-refused : (first second block₁ block₂ st : List ℕ) (k : ℕ) (r : Refusal) → checked first block₁ st k ≡ Refused r → (r .fault ≡ NoSuchRecord → ⊥)
+      → compared first second block₁ block₂ st ≡ Refused r
+  pub second-refused : (first second block₁ block₂ st : List ℕ) (x : Rebuilding) (k : ℕ) (r : Refusal) → Rebuilds first block₁ st x → checked second block₂ st k ≡ Refused r
+      → (r .fault ≡ NoSuchRecord → ⊥) → compared first second block₁ block₂ st ≡ Refused r
   -- "It says yes exactly when both rebuild the same bytes": where rebuild accepts both, by what it wrote
   pub as-rebuilt : (first second block₁ block₂ st : List ℕ) (x y : Rebuilding) → Rebuilds first block₁ st x → Rebuilds second block₂ st y
       → Exactly (compared first second block₁ block₂ st) (writtenVersion x ≡ writtenVersion y)
