@@ -77,7 +77,7 @@ static struct answer refused(uint32_t number, size_t place)
 
 /* ---- The checks of the inputs ---- */
 
-/* What a call reads; measure has neither version nor store, rebuild and check have no version. */
+/* What a call reads; measure has neither version nor store, rebuild, check and compare have no version. */
 struct inputs {
     const uint8_t *list, *version, *store;
     size_t list_len, version_len, store_len;

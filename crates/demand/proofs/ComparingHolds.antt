@@ -20,7 +20,6 @@ use Rattle.format.specs.Record.{recordsOf, encode}
 use Rattle.format.specs.Meaning.{whole, blockOf, rebuilt}
 use Rattle.format.proofs.Rulings.{fine-of-then}
 use Rattle.format.proofs.Encoding.{records-encode}
-use Rattle.format.proofs.Rebuilding.{length-rebuilt}
 use Rattle.walk.proofs.Equality.{same-refl, same-of-eq, not-same, same-sym}
 use Rattle.price.specs.declared.Price.{Price}
 use Rattle.price.specs.Price.{ratesOf}
@@ -35,6 +34,7 @@ use Rattle.show.specs.Check.{inputsRuling}
 use Rattle.show.proofs.Accepting.{readable-of-inputs}
 use Rattle.rebuild.specs.Rebuild.{rebuildRuling}
 use Rattle.compare.specs.Compare.{versionOf, yesOrNo, saysYes, compared}
+use Rattle.compare.proofs.Comparing.{length-version}
 use Rattle.compare.proofs.Answering.{compared-fine}
 use Rattle.call_partition.specs.Partition.{leastOf}
 use Rattle.linear.proofs.Theorems.{pass-holds}
@@ -57,9 +57,7 @@ module _ (list block st : List ℕ) (x : Rebuilding) (h : Rebuilds list block st
 
   length-told : figuresIn (x .answer) .whole ≡ length (versionOf list block st)
   length-told =
-      let readable = readable-of-inputs list block st inputs-fine .1 in
-      ap (λ (a : Answer). figuresIn a .whole) (rw rebuild-fine at (h .made .answered))
-      ∙ sym (length-rebuilt (recordsOf list) block st (readable .inside) (omega (arith, readable .block-fits)))
+      ap (λ (a : Answer). figuresIn a .whole) (rw rebuild-fine at (h .made .answered)) ∙ sym (length-version list block st (readable-of-inputs list block st inputs-fine .1))
 
   written-version : writtenVersion x ≡ versionOf list block st
   written-version = rw (rw rebuild-fine at (h .made .area-after)) (front (figuresIn (x .answer) .whole) (versionOf list block st) (x .before) length-told)

@@ -62,7 +62,7 @@ walk-sizes l h k w =
     rw (rows-encode l)
     (fine-of-each (checks scope.Sizes [] []) front (rowsFor l) (four-of-sized front l h, (five-of-apart front l (at-front l) k, (six-of-whole versionMost front l (omega arith), tt))))
 
--- in check, show and rebuild
+-- in check, show, rebuild and compare
 pub walk-store : (st : List ℕ) (l : List Record) → Sized l → Apart l → Inside st l → whole l ≤ versionMost → walkRuling (checks scope.Store [] st) (encode l) ≡ Fine
 walk-store st l h k i w =
     rw (rows-encode l)
