@@ -3,6 +3,7 @@
 use Prim.Native.Nat.{ℕ, _+_, _*_, _≤_}
 use native.Mathlib.Omega.{arith}
 use mathlib.Core.Path.{_≡_, refl, sym, _∙_, ap}
+use mathlib.Core.Bool.{Bool, true, false, cond}
 use mathlib.Core.Logic.{inl, inr}
 use mathlib.Core.List.{List, [], _∷_}
 use Rattle.format.specs.declared.Record.{Record}
@@ -10,46 +11,84 @@ use Rattle.format.specs.declared.Record.the-variants.{New, Match}
 use Rattle.format.specs.Meaning.{sizeOf}
 use Rattle.price.specs.declared.Rates.{Rates}
 use Rattle.price.specs.Price.{cost}
-use Rattle.join.specs.Join.{join}
-use Rattle.join.proofs.Joining.{join-match, join-new}
-use Rattle.choice.specs.Choice.{Bit, keep, store, freedom, May, IsChoice, chosenRecord, listOf, costOf, least, Early, IsLeast, keepAll}
-use Rattle.choice.specs.Path.{walk, best, pick, after, step}
+use Rattle.join.specs.declared.Open.{Open}
+use Rattle.join.specs.declared.Open.the-variants.{No, One}
+use Rattle.join.specs.Join.{joins, grown, join, tidy}
+use Rattle.join.proofs.Joining.{joins-on, join-on, join-off, settled-tidy, tidy-settled}
+use Rattle.choice.specs.Choice.{Bit, keep, store, IsChoice, chosenRecord, chosen, listOf, costOf, least, Early, IsLeast, keepAll}
+use Rattle.choice.specs.Path.{walk, best, pick, after, step, entryOf, bytesIn}
 use Rattle.choice.proofs.Path.{Beats, first, walk-pick, pick-is-first, pick-fits, pick-beats, pick-first, first-fits, choices-cong, le-beats, early-antisym}
-
-pub keep-store : {A : Type 0} → keep ≡ store → A
-keep-store e = absurd (let z : _≡_ {A = ℕ} 0 1 = cc in omega arith)
+use Rattle.choice.proofs.Unjoining.{lifted}
 
 module _ (rates : Rates) where
-  abbrev Spent : List Record → List Bit → Type 0
-  Spent rs c = (cost rates (listOf rs c) ≡ walk after (step rates) rs keep c) × ((t : ℕ) → cost rates (join (New t) (listOf rs c)) ≡ rates .fresh .0 + rates .byte .0 * t + walk after (step rates) rs store c)
+  cost-cons : (r : Record) (l : List Record) → cost rates (r ∷ l) ≡ entryOf rates r + bytesIn rates r + cost rates l
+  cost-cons (New s) l = omega arith
+  cost-cons (Match s a) l = omega arith
 
-  stores : (r : Record) (rs : List Record) (c : List Bit) → Spent rs c → Spent (r ∷ rs) (store ∷ c)
-  stores r rs c ih = (omega (arith, ih .1 (sizeOf r)), λ t. rw join-new (omega (arith, ih .1 (t + sizeOf r))))
+  -- two that join cost one entry
+  cost-grown : (r q : Record) → joins r q ≡ true → entryOf rates (grown r (sizeOf q)) + bytesIn rates (grown r (sizeOf q)) ≡ entryOf rates r + bytesIn rates r + bytesIn rates q
+  cost-grown (New s) (New t) e = omega arith
+  cost-grown (New s) (Match t b) e = cc
+  cost-grown (Match s a) (New t) e = cc
+  cost-grown (Match s a) (Match t b) e = omega arith
 
-  pub spent : (rs : List Record) (c : List Bit) → IsChoice rs c → Spent rs c
-  spent [] [] h = (omega arith, λ t. omega arith)
-  spent [] (b ∷ c) h = absurd h
-  spent (r ∷ rs) [] h = absurd h
-  spent (New s ∷ rs) (keep ∷ c) h = keep-store (h .0)
-  spent (New s ∷ rs) (store ∷ c) h = stores (New s) rs c (spent rs c (h .1))
-  spent (Match s a ∷ rs) (keep ∷ c) h = keeps (spent rs c (h .1))
+  -- records that join the same ones are followed at the same cost
+  walk-alike : (p q : Record) → ((r : Record) → joins p r ≡ joins q r) → (rs : List Record) (c : List Bit) → walk after (step rates) rs (One p) c ≡ walk after (step rates) rs (One q) c
+  walk-alike p q h [] c = refl
+  walk-alike p q h (r ∷ rs) [] = refl
+  walk-alike p q h (r ∷ rs) (b ∷ c) =
+      ap (λ (x : Bool). cond x 0 (entryOf rates (chosenRecord b r)) + bytesIn rates (chosenRecord b r) + walk after (step rates) rs (after r b) c) (h (chosenRecord b r))
+
+  record Spent (rs : List Record) (c : List Bit) : Type 0 where
+    alone : cost rates (listOf rs c) ≡ walk after (step rates) rs No c
+    behind : (q : Record) → cost rates (join q (listOf rs c)) ≡ entryOf rates q + bytesIn rates q + walk after (step rates) rs (One q) c
+
+  spent-none : (q : Record) → cost rates (q ∷ []) ≡ entryOf rates q + bytesIn rates q + 0
+  spent-none q = omega (arith, cost-cons q [])
+
+  spent-next : (r : Record) (rs : List Record) (b : Bit) (c : List Bit) → Spent rs c → Spent (r ∷ rs) (b ∷ c)
+  spent-next r rs b c ih = record { alone = ih .behind x; behind = λ q. next q (joins q x) refl }
     where
-      keeps : Spent rs c → Spent (Match s a ∷ rs) (keep ∷ c)
-      keeps ih = rw (join-match s a (listOf rs c)) (omega (arith, ih .0), λ t. omega (arith, ih .0))
-  spent (Match s a ∷ rs) (store ∷ c) h = stores (Match s a) rs c (spent rs c (h .1))
+      x : Record
+      x = chosenRecord b r
 
-  pub least-pick : (rs : List Record) → least rates rs ≡ pick after (step rates) rs keep
-  least-pick rs = choices-cong (costOf rates rs) (walk after (step rates) rs keep) rs (λ c h. spent rs c h .0) ∙ pick-is-first after (step rates) rs keep
+      next : (q : Record) (y : Bool) → joins q x ≡ y
+          → cost rates (join q (join x (listOf rs c))) ≡ entryOf rates q + bytesIn rates q + (cond y 0 (entryOf rates x) + bytesIn rates x + walk after (step rates) rs (One x) c)
+      next q true e =
+          let both : Record = grown q (sizeOf x) in
+          rw (join-on q x (listOf rs c) e) (omega (arith, ih .behind both, cost-grown q x e, walk-alike both x (λ p. joins-on q x p e) rs c))
+      next q false e = rw (join-off q x (listOf rs c) e) (omega (arith, cost-cons q (join x (listOf rs c)), ih .behind x))
+
+  spent : (rs : List Record) (c : List Bit) → Spent rs c
+  spent [] c = record { alone = omega arith; behind = spent-none }
+  spent (r ∷ rs) [] = record { alone = omega arith; behind = spent-none }
+  spent (r ∷ rs) (b ∷ c) = spent-next r rs b c (spent rs c)
+
+  -- the tidy form costs no more than the list
+  pub cost-tidy : (rs : List Record) → cost rates (tidy rs) ≤ cost rates rs
+  cost-tidy [] = omega arith
+  cost-tidy (r ∷ rs) = omega (arith, cost-join (tidy rs), cost-cons r rs, cost-tidy rs)
+    where
+      cost-join : (l : List Record) → cost rates (join r l) ≤ entryOf rates r + bytesIn rates r + cost rates l
+      cost-join [] = omega (arith, cost-cons r [])
+      cost-join (q ∷ l) = go (joins r q) refl
+        where
+          go : (x : Bool) → joins r q ≡ x → cost rates (cond x (grown r (sizeOf q) ∷ l) (r ∷ q ∷ l)) ≤ entryOf rates r + bytesIn rates r + cost rates (q ∷ l)
+          go true e = omega (arith, cost-cons (grown r (sizeOf q)) l, cost-grown r q e, cost-cons q l)
+          go false e = omega (arith, cost-cons r (q ∷ l))
+
+  pub least-pick : (rs : List Record) → least rates rs ≡ pick after (step rates) rs No
+  least-pick rs = choices-cong (costOf rates rs) (walk after (step rates) rs No) rs (λ c h. spent rs c .alone) ∙ pick-is-first after (step rates) rs No
 
   pub least-fits : (rs : List Record) → IsChoice rs (least rates rs)
-  least-fits rs = rw least-pick (pick-fits after (step rates) rs keep)
+  least-fits rs = rw least-pick (pick-fits after (step rates) rs No)
 
-  pub least-cost : (rs : List Record) → costOf rates rs (least rates rs) ≡ best after (step rates) rs keep
-  least-cost rs = spent rs (least rates rs) (least-fits rs) .0 ∙ rw least-pick (walk-pick after (step rates) rs keep)
+  pub least-cost : (rs : List Record) → costOf rates rs (least rates rs) ≡ best after (step rates) rs No
+  least-cost rs = spent rs (least rates rs) .alone ∙ rw least-pick (walk-pick after (step rates) rs No)
 
   -- the least choice against any other: it costs less, or as much and has 0 at the first record where they differ
   pub least-beats : (rs : List Record) (c : List Bit) → IsChoice rs c → Beats (costOf rates rs (least rates rs)) (least rates rs) (costOf rates rs c) c
-  least-beats rs c h = rw (least-cost rs, least-pick rs, spent rs c h .0) (pick-beats after (step rates) rs keep c h)
+  least-beats rs c h = rw (least-cost rs, least-pick rs, spent rs c .alone) (pick-beats after (step rates) rs No c h)
 
 -- the least choice is least, and no other is
 pub least-is-least : (r : Rates) (rs : List Record) → IsLeast r rs (least r rs)
@@ -75,81 +114,39 @@ least-alone r rs c h =
 
 -- ---- a list partitioned once
 
--- a choice of the list of a choice, as a choice of the list handed in
-abbrev Lifted : List Record → List Record → Type 0
-Lifted rs l = (d : List Bit) → IsChoice l d → (e : List Bit) × IsChoice rs e × (listOf rs e ≡ listOf l d)
-
-lift-store : (r : Record) (rs l : List Record) → May (freedom r) store → Lifted rs l → Lifted (r ∷ rs) (join (New (sizeOf r)) l)
-lift-store r rs l m f = go l f
-  where
-    s : ℕ
-    s = sizeOf r
-
-    go : (l : List Record) → Lifted rs l → Lifted (r ∷ rs) (join (New s) l)
-    go [] f [] k = absurd k
-    go [] f (keep ∷ d) k = keep-store (k .0)
-    go [] f (store ∷ []) k = let (e, h, q) = f [] tt in (store ∷ e, (m, h), ap (join (New s)) q)
-    go [] f (store ∷ b ∷ d) k = absurd (k .1)
-    go (New t ∷ l) f [] k = absurd k
-    go (New t ∷ l) f (keep ∷ d) k = keep-store (k .0)
-    go (New t ∷ l) f (store ∷ d) k = let (e, h, q) = f (store ∷ d) k in (store ∷ e, (m, h), ap (join (New s)) q ∙ join-new s t (listOf l d))
-    go (Match t a ∷ l) f [] k = absurd k
-    go (Match t a ∷ l) f (keep ∷ d) k = keep-store (k .0)
-    go (Match t a ∷ l) f (store ∷ d) k = let (e, h, q) = f d (k .1) in (store ∷ e, (m, h), ap (join (New s)) q)
-
-lift-keep : (s a : ℕ) (rs l : List Record) → Lifted rs l → Lifted (Match s a ∷ rs) (join (Match s a) l)
-lift-keep s a rs l f = rw (join-match s a l) go
-  where
-    go : Lifted (Match s a ∷ rs) (Match s a ∷ l)
-    go [] k = absurd k
-    go (b ∷ d) k = let (e, h, q) = f d (k .1) in (b ∷ e, (tt, h), ap (join (chosenRecord b (Match s a))) q)
-
-lift : (rs : List Record) (c : List Bit) → IsChoice rs c → Lifted rs (listOf rs c)
-lift [] c h [] k = ([], tt, refl)
-lift [] c h (b ∷ d) k = absurd k
-lift (r ∷ rs) [] h d k = absurd h
-lift (New s ∷ rs) (keep ∷ c) h d k = keep-store (h .0)
-lift (New s ∷ rs) (store ∷ c) h d k = lift-store (New s) rs (listOf rs c) refl (lift rs c (h .1)) d k
-lift (Match s a ∷ rs) (keep ∷ c) h d k = lift-keep s a rs (listOf rs c) (lift rs c (h .1)) d k
-lift (Match s a ∷ rs) (store ∷ c) h d k = lift-store (Match s a) rs (listOf rs c) tt (lift rs c (h .1)) d k
-
-first-new : (s : ℕ) (l : List Record) → listOf l (first l) ≡ l → listOf (join (New s) l) (first (join (New s) l)) ≡ join (New s) l
-first-new s [] e = refl
-first-new s (New t ∷ l) e = sym (join-new s t (listOf l (first l))) ∙ ap (join (New s)) e
-first-new s (Match t a ∷ l) e = ap (join (New s)) e
+-- the foremost choice leaves each record as it is
+chosen-first : (l : List Record) → chosen l (first l) ≡ l
+chosen-first [] = refl
+chosen-first (New s ∷ l) = ap (λ (k : List Record). New s ∷ k) (chosen-first l)
+chosen-first (Match s a ∷ l) = ap (λ (k : List Record). Match s a ∷ k) (chosen-first l)
 
 -- the list of a choice is the list of its own foremost choice
-first-list : (rs : List Record) (c : List Bit) → IsChoice rs c → listOf (listOf rs c) (first (listOf rs c)) ≡ listOf rs c
-first-list [] c h = refl
-first-list (r ∷ rs) [] h = absurd h
-first-list (New s ∷ rs) (keep ∷ c) h = keep-store (h .0)
-first-list (New s ∷ rs) (store ∷ c) h = first-new s (listOf rs c) (first-list rs c (h .1))
-first-list (Match s a ∷ rs) (keep ∷ c) h = rw (join-match s a (listOf rs c)) (join-match s a (listOf (listOf rs c) (first (listOf rs c))) ∙ ap (λ (l : List Record). Match s a ∷ l) (first-list rs c (h .1)))
-first-list (Match s a ∷ rs) (store ∷ c) h = first-new s (listOf rs c) (first-list rs c (h .1))
+first-list : (rs : List Record) (c : List Bit) → listOf (listOf rs c) (first (listOf rs c)) ≡ listOf rs c
+first-list rs c = ap tidy (chosen-first (listOf rs c)) ∙ tidy-settled (listOf rs c) (settled-tidy (chosen rs c))
 
 pub again : (rates : Rates) (rs : List Record) → least rates (listOf rs (least rates rs)) ≡ first (listOf rs (least rates rs))
-again rates rs = least-pick rates l ∙ pick-first after (step rates) l keep (omega (arith, cheap, met, led, walk-pick after (step rates) l keep))
+again rates rs = least-pick rates l ∙ pick-first after (step rates) l No (omega (arith, cheap, met, led, walk-pick after (step rates) l No))
   where
     l : List Record
     l = listOf rs (least rates rs)
 
     p : List Bit
-    p = pick after (step rates) l keep
+    p = pick after (step rates) l No
 
     up : (e : List Bit) × IsChoice rs e × (listOf rs e ≡ listOf l p)
-    up = lift rs (least rates rs) (least-fits rates rs) p (pick-fits after (step rates) l keep)
+    up = lifted rs (least rates rs) (least-fits rates rs) p (pick-fits after (step rates) l No)
 
     cheap : cost rates l ≤ cost rates (listOf rs (up .0))
     cheap = le-beats (least-beats rates rs (up .0) (up .1))
 
-    met : cost rates (listOf rs (up .0)) ≡ walk after (step rates) l keep p
-    met = ap (cost rates) (up .2) ∙ spent rates l p (pick-fits after (step rates) l keep) .0
+    met : cost rates (listOf rs (up .0)) ≡ walk after (step rates) l No p
+    met = ap (cost rates) (up .2) ∙ spent rates l p .alone
 
-    led : cost rates l ≡ walk after (step rates) l keep (first l)
-    led = sym (ap (cost rates) (first-list rs (least rates rs) (least-fits rates rs))) ∙ spent rates l (first l) (first-fits l) .0
+    led : cost rates l ≡ walk after (step rates) l No (first l)
+    led = sym (ap (cost rates) (first-list rs (least rates rs))) ∙ spent rates l (first l) .alone
 
 pub again-list : (rates : Rates) (rs : List Record) → listOf (listOf rs (least rates rs)) (least rates (listOf rs (least rates rs))) ≡ listOf rs (least rates rs)
-again-list rates rs = rw again (first-list rs (least rates rs) (least-fits rates rs))
+again-list rates rs = rw again (first-list rs (least rates rs))
 
 first-keeps : (l : List Record) → first l ≡ keepAll l
 first-keeps [] = refl

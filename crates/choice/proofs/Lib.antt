@@ -1,4 +1,5 @@
 pub mod Path
+pub mod Unjoining
 pub mod Least
 pub mod Lists
 pub mod Scaling

@@ -14,7 +14,7 @@ use Rattle.format.specs.WellFormed.{Sized, Apart, Agrees, WellFormed}
 use Rattle.area.specs.Area.{over}
 use Rattle.join.proofs.Joining.{length-join, whole-join, sized-join, apart-join, agrees-join}
 use Rattle.choice.specs.Choice.{Bit, keep, store, bitByte, bitBytes, bitAt, bitsOf, IsChoice, chosenRecord, listOf}
-use Rattle.choice.proofs.Least.{keep-store}
+use Rattle.choice.proofs.Unjoining.{keep-store}
 
 pub length-bits : (c : List Bit) → length (bitBytes c) ≡ length c
 length-bits [] = refl

@@ -1,4 +1,4 @@
--- Document 01, "A choice": the choices for a list, the list of a choice, and the least choice.
+-- Document 01, "A choice", with document 02, S-4: the choices for a list, the list of a choice, and the least choice.
 -- Assumes nothing.
 use Prim.Native.Nat.{ℕ, _+_, _≤_}
 use mathlib.Core.Path.{_≡_}
@@ -90,7 +90,8 @@ chosen [] c = []
 chosen (r ∷ rs) [] = []
 chosen (r ∷ rs) (b ∷ c) = chosenRecord b r ∷ chosen rs c
 
--- the list of a choice: each longest run of 1s becomes one new record, each 0 keeps its record as it was
+-- the list of a choice: each longest run of 1s becomes one new record, each 0 keeps its record as it was; "two neighbouring kept matches, the second's
+-- address being the first's address plus size, are written as one record"
 abbrev pub listOf : List Record → List Bit → List Record
 listOf rs c = tidy (chosen rs c)
 

@@ -2,13 +2,16 @@
 -- has it, and what the two sweeps of the code leave. And the path of a choice's cost.
 -- Assumes nothing.
 use Prim.Native.Nat.{ℕ, _+_, _*_}
-use mathlib.Core.Bool.{Bool, true, false}
+use mathlib.Core.Bool.{Bool, true, false, cond}
 use mathlib.Core.List.{List, [], _∷_}
 use lib.Dec.{leb}
 use Rattle.format.specs.declared.Record.{Record}
-use Rattle.format.specs.Meaning.{sizeOf}
+use Rattle.format.specs.declared.Record.the-variants.{New, Match}
 use Rattle.price.specs.declared.Rates.{Rates}
-use Rattle.choice.specs.Choice.{Bit, keep, store, Free, only, either, freedom}
+use Rattle.join.specs.declared.Open.{Open}
+use Rattle.join.specs.declared.Open.the-variants.{One}
+use Rattle.join.specs.Emit.{follows}
+use Rattle.choice.specs.Choice.{Bit, keep, store, Free, only, either, freedom, chosenRecord}
 
 abbrev pub bitFor : Bool → Bit
 bitFor true = keep
@@ -57,13 +60,23 @@ module _ {S : Type 0} (after : Record → Bit → S) (step : S → Record → Bi
   hints g [] = []
   hints g (r ∷ rs) = (turn rs (g keep) r, turn rs (g store) r) ∷ hints (after r) rs
 
--- ---- the cost of a choice: the state is the bit before
+-- ---- the cost of a choice: the state is the record before, as its bit leaves it
 
-abbrev pub after : Record → Bit → Bit
-after r b = b
+abbrev pub after : Record → Bit → Open
+after r b = One (chosenRecord b r)
 
--- what a record adds to the cost, by the bit before it and its own
-abbrev pub step : Rates → Bit → Record → Bit → ℕ
-step rates s r keep = rates .kept .0
-step rates keep r store = rates .fresh .0 + rates .byte .0 * sizeOf r
-step rates store r store = rates .byte .0 * sizeOf r
+-- what an entry costs, by its kind, and what its stored bytes cost
+abbrev pub entryOf : Rates → Record → ℕ
+entryOf rates (New s) = rates .fresh .0
+entryOf rates (Match s a) = rates .kept .0
+
+abbrev pub bytesIn : Rates → Record → ℕ
+bytesIn rates (New s) = rates .byte .0 * s
+bytesIn rates (Match s a) = 0
+
+-- what a record adds to the cost after the one before it: an entry, unless the two join, and its stored bytes
+abbrev pub added : Rates → Open → Record → ℕ
+added rates o r = cond (follows o r) 0 (entryOf rates r) + bytesIn rates r
+
+abbrev pub step : Rates → Open → Record → Bit → ℕ
+step rates o r b = added rates o (chosenRecord b r)

@@ -7,6 +7,7 @@ ghost use Prim.Native.Nat.{_+_, _*_, _≤_, _<_};
 ghost use lib.ListN.{length};
 ghost use Rattle.format.specs.Refusal.{number, refuse, lengthOnly, entriesOnly, figuresIn};
 ghost use Rattle.format.specs.Record.{wordAt, rowAt, recordOf, wellFormed, listFits};
+ghost use Rattle.format.specs.Meaning.{sizeOf};
 
 // What is at fault, in the order of the numbers 1 to 11 (`number`).
 pub enum Fault {
@@ -184,6 +185,16 @@ pub fn record_at(list: &[u8], i: usize) -> Record
     ensures { λ r. ⌜ r ≡ recordOf (rowAt (now (list .entry)) i) ⌝ }
 {
     record_of(row_at(list, i))
+}
+
+// The bytes that a record covers.
+pub fn size_of(record: Record) -> u32
+    ensures { λ r. ⌜ r ≡ sizeOf «record» ⌝ }
+{
+    match record {
+        Record::New(size) => size,
+        Record::Match(size, _) => size,
+    }
 }
 
 // Whether a row is a record: check 4.

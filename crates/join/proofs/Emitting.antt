@@ -3,10 +3,10 @@
 use Prim.Native.Nat.{ℕ, _+_, _≤_}
 use native.Mathlib.Omega.{arith}
 use mathlib.Core.Path.{_≡_, refl, sym, _∙_, ap}
+use mathlib.Core.Bool.{Bool, true, false, cond}
 use mathlib.Core.List.{List, [], _∷_, _++_, append-nil}
 use lib.ListN.{length}
 use Rattle.format.specs.declared.Record.{Record}
-use Rattle.format.specs.declared.Record.the-variants.{New, Match}
 use Rattle.format.specs.Record.{bytesOf, encode}
 use Rattle.format.specs.Meaning.{sizeOf}
 use Rattle.format.proofs.Encoding.{length-bytes}
@@ -14,9 +14,9 @@ use Rattle.area.specs.Area.{pasted}
 use Rattle.area.proofs.Pasting.{pasted-none}
 use Rattle.join.specs.declared.Open.{Open}
 use Rattle.join.specs.declared.Open.the-variants.{No, One}
-use Rattle.join.specs.Join.{jointOf, join}
+use Rattle.join.specs.Join.{joins, grown, join}
 use Rattle.join.specs.Emit.{pending, openSize, flushed, opened, Emits}
-use Rattle.join.proofs.Joining.{join-match, join-new}
+use Rattle.join.proofs.Joining.{size-grown, join-on, join-off}
 
 -- the open record before a list
 abbrev pub held : Open → List Record → List Record
@@ -25,43 +25,44 @@ held (One r) l = join r l
 
 pub held-none : (o : Open) → held o [] ≡ pending o
 held-none No = refl
-held-none (One (New s)) = refl
-held-none (One (Match s a)) = refl
+held-none (One r) = refl
 
 pub held-join : (o : Open) (r : Record) (l : List Record) → held o (join r l) ≡ flushed o r ++ held (opened o r) l
 held-join No r l = refl
-held-join (One (New s)) (New t) l = join-new s t l
-held-join (One (New s)) (Match t a) l = rw (join-match t a l)
-held-join (One (Match s a)) r l = join-match s a (join r l)
+held-join (One q) r l = go (joins q r) refl
+  where
+    go : (x : Bool) → joins q r ≡ x → join q (join r l) ≡ cond x [] (q ∷ []) ++ join (cond x (grown q (sizeOf r)) r) l
+    go true e = join-on q r l e
+    go false e = join-off q r l e
 
 pub open-size : (o : Open) (r : Record) → openSize (opened o r) ≤ openSize o + sizeOf r
 open-size No r = omega arith
-open-size (One (New s)) (New t) = omega arith
-open-size (One (New s)) (Match t a) = omega arith
-open-size (One (Match s a)) r = omega arith
+open-size (One q) r = go (joins q r)
+  where
+    go : (x : Bool) → sizeOf (cond x (grown q (sizeOf r)) r) ≤ sizeOf q + sizeOf r
+    go true = omega (arith, size-grown q (sizeOf r))
+    go false = omega arith
 
 -- ---- one record taken in: none is open, the two join, or the open one is written
 module _ (area : List ℕ) (out : ℕ) (o : Open) (r : Record) where
   pub emits-first : o ≡ No → Emits area out o r (record { out = out; last = One r }) area
   emits-first e = rw e (record { out-is = omega arith; last-is = refl; area-after = pasted-none out area })
 
-  module _ (q : Record) (e : o ≡ One q) (j : Open) (i : j ≡ jointOf q r) where
-    pub emits-joint : (b : Record) → j ≡ One b → Emits area out o r (record { out = out; last = j }) area
-    emits-joint b k =
-        let m : jointOf q r ≡ One b = sym i ∙ k in
-        let w : encode (flushed o r) ≡ [] = rw (e, m) in
-        let v : opened o r ≡ One b = rw (e, m) in
-        record { out-is = rw w (omega arith); last-is = k ∙ sym v; area-after = rw w (pasted-none out area) }
+  module _ (q : Record) (e : o ≡ One q) where
+    pub emits-joint : joins q r ≡ true → (b : Record) → b ≡ grown q (sizeOf r) → Emits area out o r (record { out = out; last = One b }) area
+    emits-joint j b i =
+        let w : encode (flushed o r) ≡ [] = rw (e, j) in
+        let v : opened o r ≡ One (grown q (sizeOf r)) = rw (e, j) in
+        record { out-is = rw w (omega arith); last-is = ap One i ∙ sym v; area-after = rw w (pasted-none out area) }
 
-    module _ (k : j ≡ No) where
+    module _ (j : joins q r ≡ false) where
       one : flushed o r ≡ q ∷ []
-      one = let m : jointOf q r ≡ No = sym i ∙ k in rw (e, m)
+      one = rw (e, j)
 
       pub emits-room : out + length (encode (flushed o r)) ≤ length area → out + 12 ≤ length area
       emits-room h = let m : length (encode (flushed o r)) ≡ 12 = ap (λ (l : List Record). length (encode l)) one ∙ rw (append-nil (bytesOf q)) (length-bytes q) in omega arith
 
       pub emits-written : (after : List ℕ) → after ≡ pasted out (bytesOf q) area → Emits area out o r (record { out = out + 12; last = One r }) after
       emits-written after f =
-          let m : jointOf q r ≡ No = sym i ∙ k in
           let w : encode (flushed o r) ≡ bytesOf q = ap encode one ∙ append-nil (bytesOf q) in
-          record { out-is = rw (w, length-bytes q); last-is = rw (e, m); area-after = rw w f }
+          record { out-is = rw (w, length-bytes q); last-is = rw (e, j); area-after = rw w f }

@@ -2,6 +2,7 @@
 -- Assumes nothing.
 use Prim.Native.Nat.{ℕ, _+_}
 use mathlib.Core.Path.{_≡_}
+use mathlib.Core.Bool.{Bool, false, cond}
 use mathlib.Core.List.{List, [], _∷_, _++_}
 use lib.ListN.{length}
 use Rattle.format.specs.declared.Record.{Record}
@@ -11,7 +12,7 @@ use Rattle.area.specs.Area.{pasted}
 use Rattle.join.specs.declared.Emitted.{Emitted}
 use Rattle.join.specs.declared.Open.{Open}
 use Rattle.join.specs.declared.Open.the-variants.{No, One}
-use Rattle.join.specs.Join.{jointOf}
+use Rattle.join.specs.Join.{joins, grown}
 
 -- the fields of a record as 12 bytes
 abbrev pub fields : ℕ → ℕ → ℕ → List ℕ
@@ -26,22 +27,18 @@ abbrev pub openSize : Open → ℕ
 openSize No = 0
 openSize (One r) = sizeOf r
 
+-- whether a record joins the open one
+abbrev pub follows : Open → Record → Bool
+follows No r = false
+follows (One o) r = joins o r
+
 -- a record r taken in by the open one: what is written, and what is open then
-abbrev pub unless : Open → List Record → List Record
-unless No l = l
-unless (One r) l = []
-
-abbrev pub orElse : Open → Record → Open
-orElse No r = One r
-orElse (One q) r = One q
-
 abbrev pub flushed : Open → Record → List Record
-flushed No r = []
-flushed (One o) r = unless (jointOf o r) (o ∷ [])
+flushed o r = cond (follows o r) [] (pending o)
 
 abbrev pub opened : Open → Record → Open
 opened No r = One r
-opened (One o) r = orElse (jointOf o r) r
+opened (One o) r = One (cond (joins o r) (grown o (sizeOf r)) r)
 
 pub record Emits (area : List ℕ) (out : ℕ) (last : Open) (r : Record) (e : Emitted) (after : List ℕ) : Type 0 where
   pub out-is : e .out ≡ out + length (encode (flushed last r))

@@ -1,28 +1,43 @@
--- Which neighbouring records join, and the tidy form of a list: document 01, "A choice".
+-- Which neighbouring records join, and the tidy form of a list: document 01, "A choice", as document 02 has it since matches that go on in the store
+-- are one record (S-4).
 -- Assumes nothing.
-use Prim.Native.Nat.{_+_}
+use Prim.Native.Nat.{ℕ, _+_}
+use mathlib.Core.Path.{_≡_}
+use mathlib.Core.Bool.{Bool, true, false, cond}
 use mathlib.Core.List.{List, [], _∷_}
+use lib.Dec.{eqb}
 use Rattle.format.specs.declared.Record.{Record}
 use Rattle.format.specs.declared.Record.the-variants.{New, Match}
-use Rattle.join.specs.declared.Open.{Open}
-use Rattle.join.specs.declared.Open.the-variants.{No, One}
+use Rattle.format.specs.Meaning.{sizeOf}
 
--- two neighbours as one, where they join: new records do; matches that follow each other in the store still take one entry each
-abbrev pub jointOf : Record → Record → Open
-jointOf (New s) (New t) = One (New (s + t))
-jointOf (New s) (Match t a) = No
-jointOf (Match s a) r = No
+-- whether two neighbours join: new records do, and matches do, "the second's address being the first's address plus size"
+abbrev pub joins : Record → Record → Bool
+joins (New s) (New t) = true
+joins (New s) (Match t b) = false
+joins (Match s a) (New t) = false
+joins (Match s a) (Match t b) = eqb (a + s) b
+
+-- a record that another of t bytes joined
+abbrev pub grown : Record → ℕ → Record
+grown (New s) t = New (s + t)
+grown (Match s a) t = Match (s + t) a
+
+-- whether a record joins the first of a list
+abbrev pub joinsFirst : Record → List Record → Bool
+joinsFirst r [] = false
+joinsFirst r (q ∷ l) = joins r q
 
 -- a record put before a list: it joins the first of the list, or stays by itself
-abbrev pub placed : Open → List Record → List Record → List Record
-placed No rest both = both
-placed (One x) rest both = x ∷ rest
-
 abbrev pub join : Record → List Record → List Record
 join r [] = r ∷ []
-join r (q ∷ l) = placed (jointOf r q) l (r ∷ q ∷ l)
+join r (q ∷ l) = cond (joins r q) (grown r (sizeOf q) ∷ l) (r ∷ q ∷ l)
 
 -- each longest run of records that join becomes one
 abbrev pub tidy : List Record → List Record
 tidy [] = []
 tidy (r ∷ l) = join r (tidy l)
+
+-- no two neighbours join
+abbrev pub Settled : List Record → Type 0
+Settled [] = Unit {0}
+Settled (r ∷ l) = (joinsFirst r l ≡ false) × Settled l

@@ -1,12 +1,12 @@
 // Which neighbouring records join, and the writing of a list with one record held open, so that the next may join it.
 //
-// `joint` alone says what joins; what is written and what is held open follows from it.
+// `joins` alone says what joins; what is written and what is held open follows from it.
 ghost use mathlib.Core.Path.{_≡_};
 ghost use Prim.Native.Nat.{_+_, _≤_, _<_};
 ghost use lib.ListN.{length};
 ghost use Rattle.format.specs.Record.{bytesOf, encode};
 ghost use Rattle.area.specs.Area.{pasted};
-ghost use Rattle.join.specs.Join.{jointOf};
+ghost use Rattle.join.specs.Join.{joins, grown};
 ghost use Rattle.join.specs.Emit.{fields, pending, openSize, flushed, Emits};
 use format::Record;
 
@@ -60,18 +60,32 @@ fn put_record(area: &mut [u8], out: usize, record: Record)
     area::put(area, out, &b);
 }
 
-// Two neighbours as one, where they join: new records do.
-fn joint(first: Record, second: Record) -> Open
-    requires { ⌜ openSize (Open.One first) + openSize (Open.One second) < 4294967296 ⌝ }
-    ensures { λ r. ⌜ r ≡ jointOf first second ⌝ }
+// Whether two neighbours join: new records do, and so do matches where the second begins where the first ends in the store. (Sums of 64 bits, as
+// nothing says here that a match lies in the store.)
+pub fn joins(first: Record, second: Record) -> bool
+    ensures { λ r. ⌜ r ≡ joins first second ⌝ }
 {
-    let Record::New(size) = first else {
-        return Open::No;
-    };
-    let Record::New(more) = second else {
-        return Open::No;
-    };
-    Open::One(Record::New(size + more))
+    match first {
+        Record::New(_) => match second {
+            Record::New(_) => true,
+            Record::Match(_, _) => false,
+        },
+        Record::Match(size, address) => match second {
+            Record::New(_) => false,
+            Record::Match(_, next) => (address as u64) + (size as u64) == (next as u64),
+        },
+    }
+}
+
+// A record that another of so many bytes joined.
+fn grown(record: Record, more: u32) -> Record
+    requires { ⌜ openSize (Open.One «record») + more < 4294967296 ⌝ }
+    ensures { λ r. ⌜ r ≡ grown «record» more ⌝ }
+{
+    match record {
+        Record::New(size) => Record::New(size + more),
+        Record::Match(size, address) => Record::Match(size + more, address),
+    }
 }
 
 // Takes in the next record: it joins the open one, or the open one is written.
@@ -86,15 +100,18 @@ pub fn emit(area: &mut [u8], out: usize, last: Open, record: Record) -> Emitted
             last: Open::One(record),
         };
     };
-    let both = joint(held, record);
-    let Open::One(_) = both else {
-        put_record(area, out, held);
+    if joins(held, record) {
+        let both = grown(held, format::size_of(record));
         return Emitted {
-            out: out + 12,
-            last: Open::One(record),
+            out,
+            last: Open::One(both),
         };
-    };
-    Emitted { out, last: both }
+    }
+    put_record(area, out, held);
+    Emitted {
+        out: out + 12,
+        last: Open::One(record),
+    }
 }
 
 // Writes the open record, if there is one, and gives the place after it.

@@ -216,7 +216,7 @@ fn load(list: &[u8]) -> Machine
         right -= 1;
         let record = format::record_at(list, i);
         kinds[right] = kind_of(record);
-        sizes[right] = choice::size_of(record);
+        sizes[right] = format::size_of(record);
     }
     Machine {
         kinds,
@@ -244,7 +244,7 @@ fn read_off(machine: Machine, list: &[u8], choice: &mut [u8])
     let mut i = 0;
     while i < n {
         let record = format::record_at(list, i);
-        let size = choice::size_of(record);
+        let size = format::size_of(record);
         choice[i] = bit_of(machine.kinds[at]);
         i += 1;
         if size < uncovered {

@@ -23,7 +23,7 @@ fn weigh(rates: Rates, record: Record, kept: Cost, stored: Cost) -> Turn
     requires { ⌜ (RatesFit rates) × (kept .0 ≤ 4503599644082176) × (stored .0 ≤ 4503599644082176) ⌝ }
     ensures { λ t. ⌜ Turned rates «record» (kept .0) (stored .0) t ⌝ }
 {
-    let bytes = price::storing(rates, choice::size_of(record));
+    let bytes = price::storing(rates, format::size_of(record));
     let keep = Cost(rates.kept.0 + kept.0);
     let fresh = Cost(rates.fresh.0 + bytes.0 + stored.0);
     let joined = Cost(bytes.0 + stored.0);

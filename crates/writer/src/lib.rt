@@ -38,7 +38,7 @@ fn write_block(list: &[u8], choice: &[u8], version: &[u8], block_area: &mut [u8]
     while i < n {
         let record = choice::chosen(format::record_at(list, i), choice[i]);
         let from = at;
-        at += format::index(choice::size_of(record));
+        at += format::index(format::size_of(record));
         i += 1;
         if let Record::New(_) = record {
             let part = &version[from..at];

@@ -1,0 +1,105 @@
+-- Choices of a tidy form, and of the list that it was made of: each choice of the first is one of the second, with the same list; and so is each
+-- choice of the list of a choice.
+-- Assumes nothing.
+use Prim.Native.Nat.{ℕ}
+use native.Mathlib.Omega.{arith}
+use mathlib.Core.Path.{_≡_, refl, _∙_, ap}
+use mathlib.Core.Bool.{Bool, true, false, cond}
+use mathlib.Core.List.{List, [], _∷_}
+use Rattle.format.specs.declared.Record.{Record}
+use Rattle.format.specs.declared.Record.the-variants.{New, Match}
+use Rattle.format.specs.Meaning.{sizeOf}
+use Rattle.join.specs.Join.{joins, grown, joinsFirst, join, tidy}
+use Rattle.join.proofs.Joining.{join-on}
+use Rattle.choice.specs.Choice.{Bit, keep, store, freedom, May, IsChoice, chosenRecord, chosen, listOf}
+
+pub keep-store : {A : Type 0} → keep ≡ store → A
+keep-store e = absurd (let z : _≡_ {A = ℕ} 0 1 = cc in omega arith)
+
+-- a choice of the tidy form, for each record of the list: records that join have one bit
+abbrev pub unjoined : List Record → List Bit → List Bit
+unjoined [] d = []
+unjoined (r ∷ rs) [] = []
+unjoined (r ∷ rs) (b ∷ d) = b ∷ unjoined rs (cond (joinsFirst r (tidy rs)) (b ∷ d) d)
+
+-- ---- two records that join
+
+free-grown : (r : Record) (t : ℕ) → freedom (grown r t) ≡ freedom r
+free-grown (New s) t = refl
+free-grown (Match s a) t = refl
+
+free-joins : (r q : Record) → joins r q ≡ true → freedom r ≡ freedom q
+free-joins (New s) (New t) e = refl
+free-joins (New s) (Match t b) e = cc
+free-joins (Match s a) (New t) e = cc
+free-joins (Match s a) (Match t b) e = refl
+
+-- they join whether both are kept or both are stored
+joins-chosen : (b : Bit) (r q : Record) → joins r q ≡ true → joins (chosenRecord b r) (chosenRecord b q) ≡ true
+joins-chosen keep r q e = e
+joins-chosen store r q e = refl
+
+grown-chosen : (b : Bit) (r q : Record) → grown (chosenRecord b r) (sizeOf (chosenRecord b q)) ≡ chosenRecord b (grown r (sizeOf q))
+grown-chosen keep r q = refl
+grown-chosen store (New s) q = refl
+grown-chosen store (Match s a) q = refl
+
+-- ---- a choice of the tidy form
+
+-- each choice of t is one of rs by f, with the same list
+abbrev Carried : List Record → List Record → (List Bit → List Bit) → Type 0
+Carried rs t f = (d : List Bit) → IsChoice t d → IsChoice rs (f d) × (listOf rs (f d) ≡ listOf t d)
+
+-- one record more before both: it joins the first of t, or it does not
+module _ (r : Record) (rs : List Record) (f : List Bit → List Bit) where
+  abbrev ahead : Bool → List Bit → List Bit
+  ahead x [] = []
+  ahead x (b ∷ d) = b ∷ f (cond x (b ∷ d) d)
+
+  apart : (t : List Record) → Carried rs t f → Carried (r ∷ rs) (r ∷ t) (ahead false)
+  apart t h [] k = absurd k
+  apart t h (b ∷ d) k = let i = h d (k .1) in ((k .0, i .0), ap (join (chosenRecord b r)) (i .1))
+
+  together : (q : Record) (t : List Record) → joins r q ≡ true → Carried rs (q ∷ t) f → Carried (r ∷ rs) (grown r (sizeOf q) ∷ t) (ahead true)
+  together q t e h [] k = absurd k
+  together q t e h (b ∷ d) k =
+      let may : May (freedom r) b = rw (free-grown r (sizeOf q)) at (k .0) in
+      let i = h (b ∷ d) (rw (free-joins r q e) at may, k .1) in
+      ((may, i .0), ap (join (chosenRecord b r)) (i .1) ∙ join-on (chosenRecord b r) (chosenRecord b q) (listOf t d) (joins-chosen b r q e) ∙ ap (λ (x : Record). join x (listOf t d)) (grown-chosen b r q))
+
+  carried-join : (t : List Record) → Carried rs t f → Carried (r ∷ rs) (join r t) (ahead (joinsFirst r t))
+  carried-join [] h = apart [] h
+  carried-join (q ∷ t) h = go (joins r q) refl
+    where
+      go : (x : Bool) → joins r q ≡ x → Carried (r ∷ rs) (cond x (grown r (sizeOf q) ∷ t) (r ∷ q ∷ t)) (ahead x)
+      go true e = together q t e h
+      go false e = apart (q ∷ t) h
+
+pub carried : (rs : List Record) → Carried rs (tidy rs) (unjoined rs)
+carried [] [] k = (tt, refl)
+carried [] (b ∷ d) k = absurd k
+carried (r ∷ rs) [] k = carried-join r rs (unjoined rs) (tidy rs) (carried rs) [] k
+carried (r ∷ rs) (b ∷ d) k = carried-join r rs (unjoined rs) (tidy rs) (carried rs) (b ∷ d) k
+
+-- ---- a choice of the list of a choice
+
+-- a choice of what a choice leaves is one of the records, and leaves the same
+chosen-again : (rs : List Record) (c e : List Bit) → IsChoice rs c → IsChoice (chosen rs c) e → IsChoice rs e × (chosen rs e ≡ chosen (chosen rs c) e)
+chosen-again [] [] [] h k = (tt, refl)
+chosen-again [] [] (d ∷ e) h k = absurd k
+chosen-again [] (b ∷ c) e h k = absurd h
+chosen-again (r ∷ rs) [] e h k = absurd h
+chosen-again (r ∷ rs) (b ∷ c) [] h k = absurd k
+chosen-again (New s ∷ rs) (keep ∷ c) (d ∷ e) h k = keep-store (h .0)
+chosen-again (New s ∷ rs) (store ∷ c) (keep ∷ e) h k = keep-store (k .0)
+chosen-again (New s ∷ rs) (store ∷ c) (store ∷ e) h k = let i = chosen-again rs c e (h .1) (k .1) in ((refl, i .0), ap (λ (l : List Record). New s ∷ l) (i .1))
+chosen-again (Match s a ∷ rs) (keep ∷ c) (d ∷ e) h k = let i = chosen-again rs c e (h .1) (k .1) in ((tt, i .0), ap (λ (l : List Record). chosenRecord d (Match s a) ∷ l) (i .1))
+chosen-again (Match s a ∷ rs) (store ∷ c) (keep ∷ e) h k = keep-store (k .0)
+chosen-again (Match s a ∷ rs) (store ∷ c) (store ∷ e) h k = let i = chosen-again rs c e (h .1) (k .1) in ((tt, i .0), ap (λ (l : List Record). New s ∷ l) (i .1))
+
+-- a choice of the list of a choice, as a choice of the records
+pub lifted : (rs : List Record) (c : List Bit) → IsChoice rs c → (d : List Bit) → IsChoice (listOf rs c) d → (e : List Bit) × IsChoice rs e × (listOf rs e ≡ listOf (listOf rs c) d)
+lifted rs c h d k =
+    let i = carried (chosen rs c) d k in
+    let j = chosen-again rs c (unjoined (chosen rs c) d) h (i .0) in
+    (unjoined (chosen rs c) d, j .0, ap tidy (j .1) ∙ i .1)
