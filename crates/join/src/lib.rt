@@ -7,7 +7,7 @@ ghost use lib.ListN.{length};
 ghost use Rattle.format.specs.Record.{bytesOf, encode};
 ghost use Rattle.area.specs.Area.{pasted};
 ghost use Rattle.join.specs.Join.{joins, grown};
-ghost use Rattle.join.specs.Emit.{fields, pending, openSize, flushed, Emits};
+ghost use Rattle.join.specs.Emit.{fields, pending, openSize, follows, flushed, Emits};
 use format::Record;
 
 // A record that is not written yet, as the next may join it.
@@ -75,6 +75,16 @@ pub fn joins(first: Record, second: Record) -> bool
             Record::Match(_, next) => (address as u64) + (size as u64) == (next as u64),
         },
     }
+}
+
+// Whether a record joins the open one, if there is one.
+pub fn follows(last: Open, record: Record) -> bool
+    ensures { λ r. ⌜ r ≡ follows last «record» ⌝ }
+{
+    let Open::One(held) = last else {
+        return false;
+    };
+    joins(held, record)
 }
 
 // A record that another of so many bytes joined.

@@ -1,47 +1,64 @@
 -- Laws of the two sweeps: each record's turn is the path's, and what the sweep from the front makes of the hints is the least choice.
 -- Assumes nothing.
-use Prim.Native.Nat.{ℕ, suc, _+_, _*_, _-_, _/_, _≤_, _<_}
+use Prim.Native.Nat.{ℕ, suc, _+_, _-_, _*_, _/_, _≤_, _<_}
 use native.Mathlib.Omega.{arith}
 use native.Mathlib.Numerals.{add-one}
 use mathlib.Core.Path.{_≡_, refl, sym, _∙_, ap}
+use mathlib.Core.Bool.{true, false}
 use mathlib.Core.List.{List, [], _∷_, _++_, append-assoc}
-use borrow.Author.Tests.{le-leb, lt-leb}
+use borrow.Author.Tests.{le-leb, lt-leb, ne-eqb}
 use lib.ListN.{length, getD, take, drop, set}
 use lib.Seq.{take-suc, set-at, length-take-le, drop-cons, take-suc-set, drop-set-lt, append-snoc}
 use Rattle.format.specs.declared.Record.{Record}
 use Rattle.format.specs.Record.{rowAt, recordOf, recordsOf, recordsFrom}
-use Rattle.format.specs.Meaning.{sizeOf}
 use Rattle.format.proofs.Rows.{recordsFrom-next, recordsFrom-none, recordsFrom-all, length-recordsOf}
+use Rattle.price.specs.declared.Cost.{Cost}
 use Rattle.price.specs.declared.Rates.{Rates}
+use Rattle.join.specs.declared.Open.{Open}
+use Rattle.join.specs.declared.Open.the-variants.{No, One}
+use Rattle.join.specs.Emit.{follows}
 use Rattle.choice.specs.Choice.{Bit, keep, store, bitByte, bitBytes, only, either, freedom, least}
-use Rattle.choice.specs.Path.{pickBit, follow, after, step}
+use Rattle.choice.specs.Path.{pickBit, follow, after, entryOf, bytesIn, step}
 use Rattle.choice.proofs.Path.{follow-pick}
 use Rattle.choice.proofs.Least.{least-pick, least-cost, least-fits}
 use Rattle.choice.proofs.Lists.{length-bits, length-choice}
 use Rattle.sweep.specs.declared.Turn.{Turn}
-use Rattle.sweep.specs.Sweep.{hintByte, hintBytes, turned, bestOf, hintsOf, nextBit, forwards, Back, LeastIn}
+use Rattle.sweep.specs.declared.Way.{Way}
+use Rattle.sweep.specs.Sweep.{hintByte, hintBytes, stepMost, Better, Adds, beforeAt, leftBy, turned, Turned, bestOf, hintsOf, nextBit, forwards, Back, LeastIn}
 
-abbrev made : ℕ → ℕ → ℕ → Turn
-made k h b = record { kept = record { 0 = k }; stored = record { 0 = h }; hint = b }
+-- ---- one record
 
--- the turn that the code makes, by its tests: w is what storing the record's bytes costs
-module _ (rates : Rates) (r : Record) (kept held w : ℕ) (e : w ≡ rates .byte .0 * sizeOf r) where
-  pub turned-only : freedom r ≡ only store → made (rates .fresh .0 + w + held) (w + held) 3 ≡ turned rates r kept held
-  turned-only f = rw (← e, f)
+module _ (rates : Rates) (o : Open) (r : Record) (d : Cost) where
+  pub adds-joined : follows o r ≡ true → d .0 ≡ bytesIn rates r → d .0 ≤ stepMost → Adds rates o r d
+  adds-joined f e h = record { is = rw f (omega (arith, e)); most = h }
 
-  pub turned-keep : freedom r ≡ either → rates .kept .0 + kept ≤ rates .fresh .0 + w + held → rates .kept .0 + kept ≤ w + held
-      → made (rates .kept .0 + kept) (rates .kept .0 + kept) 0 ≡ turned rates r kept held
-  turned-keep f h k = rw (← e, f, le-leb _ _ h, le-leb _ _ k)
+  pub adds-apart : follows o r ≡ false → d .0 ≡ entryOf rates r + bytesIn rates r → d .0 ≤ stepMost → Adds rates o r d
+  adds-apart f e h = record { is = rw f e; most = h }
 
-  pub turned-join : freedom r ≡ either → rates .kept .0 + kept ≤ rates .fresh .0 + w + held → w + held < rates .kept .0 + kept
-      → made (rates .kept .0 + kept) (w + held) 2 ≡ turned rates r kept held
-  turned-join f h k = rw (← e, f, le-leb _ _ h, lt-leb _ _ k)
+-- the better way, by the tests that the code makes: k is what keeping the record comes to, n is what storing it does
+module _ (rates : Rates) (o : Open) (r : Record) (kept held k n : ℕ) (ek : k ≡ step rates o r keep + kept) (en : n ≡ step rates o r store + held) (most : n ≤ held + stepMost) where
+  abbrev way : ℕ → ℕ → Way
+  way m b = record { cost = record { 0 = m }; bit = b }
 
-  pub turned-store : freedom r ≡ either → rates .fresh .0 + w + held < rates .kept .0 + kept
-      → made (rates .fresh .0 + w + held) (w + held) 3 ≡ turned rates r kept held
-  turned-store f h =
-      let k : w + held < rates .kept .0 + kept = omega arith in
-      rw (← e, f, lt-leb _ _ h, lt-leb _ _ k)
+  pub better-only : freedom r ≡ only store → Better rates o r kept held (way n 1)
+  better-only f = record { is = rw (en, f); cost-most = most; bit-most = omega arith }
+
+  pub better-keep : freedom r ≡ either → k ≤ n → Better rates o r kept held (way k 0)
+  better-keep f h = record { is = rw (← ek, ← en, f, le-leb k n h); cost-most = omega arith; bit-most = omega arith }
+
+  pub better-store : freedom r ≡ either → n < k → Better rates o r kept held (way n 1)
+  better-store f h = record { is = rw (← ek, ← en, f, lt-leb k n h); cost-most = most; bit-most = omega arith }
+
+left-keep : (o : Open) → leftBy o keep ≡ o
+left-keep No = refl
+left-keep (One r) = refl
+
+-- both ways with a record, after the one before it, kept or stored
+pub turned-of : (rates : Rates) (o : Open) (r : Record) (kept held : ℕ) (k s : Way) → Better rates o r kept held k → Better rates (leftBy o store) r kept held s
+    → Turned rates o r kept held (record { kept = record { 0 = k .cost .0 }; stored = record { 0 = s .cost .0 }; hint = k .bit + 2 * s .bit })
+turned-of rates o r kept held k s hk hs = record { is = rw (hk .is, hs .is, left-keep o); kept-most = hk .cost-most; stored-most = hs .cost-most }
+
+-- ---- the sweep from the rear
 
 pub records-end : (list : List ℕ) (n : ℕ) → recordsFrom list n n ≡ []
 records-end list n = recordsFrom-none list n n (omega arith)
@@ -51,11 +68,25 @@ records-back list n i h k =
     let e : i - 1 + 1 ≡ i = omega arith in
     recordsFrom-next list n (i - 1) (omega arith) ∙ ap (λ (j : ℕ). recordOf (rowAt list (i - 1)) ∷ recordsFrom list n j) e
 
-pub back-turn : (rates : Rates) (list : List ℕ) (n i kept held : ℕ) → 0 < i → i ≤ n → kept ≡ bestOf rates (recordsFrom list n i) keep → held ≡ bestOf rates (recordsFrom list n i) store
-    → (t : Turn) → t ≡ turned rates (recordOf (rowAt list (i - 1))) kept held
-    → (t .kept .0 ≡ bestOf rates (recordsFrom list n (i - 1)) keep) × (t .stored .0 ≡ bestOf rates (recordsFrom list n (i - 1)) store)
-    × (t .hint ∷ hintBytes (hintsOf rates (recordsFrom list n i)) ≡ hintBytes (hintsOf rates (recordsFrom list n (i - 1))))
-back-turn rates list n i kept held h k ek eh t e = rw (e, ek, eh, records-back list n i h k) (refl, refl, refl)
+before-next : (list : List ℕ) (i : ℕ) → 0 < i → beforeAt list i ≡ One (recordOf (rowAt list (i - 1)))
+before-next list i h = let some : i ≡ 0 → ⊥ = λ e. omega arith in rw (ne-eqb i 0 some)
+
+-- what the sweep has left before record i
+pub record Swept (rates : Rates) (list : List ℕ) (n i kept held : ℕ) (h : List ℕ) : Type 0 where
+  pub kept-is : kept ≡ bestOf rates (recordsFrom list n i) (leftBy (beforeAt list i) keep)
+  pub held-is : held ≡ bestOf rates (recordsFrom list n i) (leftBy (beforeAt list i) store)
+  pub hints-are : h ≡ hintBytes (hintsOf rates (leftBy (beforeAt list i)) (recordsFrom list n i))
+
+pub swept-end : (rates : Rates) (list : List ℕ) (n : ℕ) → Swept rates list n n 0 0 []
+swept-end rates list n = record { kept-is = rw (records-end list n); held-is = rw (records-end list n); hints-are = rw (records-end list n) }
+
+pub swept-next : {rates : Rates} {list : List ℕ} {n i kept held : ℕ} {h : List ℕ} → Swept rates list n i kept held h → 0 < i → i ≤ n
+    → (t : Turn) → t ≡ turned rates (beforeAt list (i - 1)) (recordOf (rowAt list (i - 1))) kept held
+    → Swept rates list n (i - 1) (t .kept .0) (t .stored .0) (t .hint ∷ h)
+swept-next {rates} {list} {n} {i} {kept} {held} {h} s some most t e = rw (e, s .kept-is, s .held-is, s .hints-are, before-next list i some) (record { kept-is = rw back; held-is = rw back; hints-are = rw back })
+  where
+    back : recordsFrom list n (i - 1) ≡ recordOf (rowAt list (i - 1)) ∷ recordsFrom list n i
+    back = records-back list n i some most
 
 pub set-back : (c e : List ℕ) (i x : ℕ) → 0 < i → i ≤ length c → set (take i c ++ e) (i - 1) x ≡ take (i - 1) c ++ (x ∷ e)
 set-back c e i x h k =
@@ -91,20 +122,21 @@ pub forwards-follow : (b : Bit) (hs : List (Bit × Bit)) (t : List ℕ) → forw
 forwards-follow b [] t = refl
 forwards-follow b (h ∷ hs) t = rw (next-pick b h) (ap (λ (l : List ℕ). bitByte (pickBit b h) ∷ l) (forwards-follow (pickBit b h) hs t))
 
-length-hints : (rates : Rates) (rs : List Record) → length (hintsOf rates rs) ≡ length rs
-length-hints rates [] = refl
-length-hints rates (r ∷ rs) = ap suc (length-hints rates rs)
+length-hints : (rates : Rates) (g : Bit → Open) (rs : List Record) → length (hintsOf rates g rs) ≡ length rs
+length-hints rates g [] = refl
+length-hints rates g (r ∷ rs) = ap suc (length-hints rates (after r) rs)
 
 -- the sweep from the front over what the sweep from the rear left is the least choice
 pub forwards-least : (rates : Rates) (list t : List ℕ) → let n = length list / 12 in
-    forwards n 0 (hintBytes (hintsOf rates (recordsFrom list n 0)) ++ t) ≡ bitBytes (least rates (recordsOf list)) ++ t
+    forwards n 0 (hintBytes (hintsOf rates (leftBy No) (recordsFrom list n 0)) ++ t) ≡ bitBytes (least rates (recordsOf list)) ++ t
 forwards-least rates list t =
     let rs = recordsOf list in
-    let e : length list / 12 ≡ length (hintsOf rates rs) = sym (length-hints rates rs ∙ length-recordsOf list) in
+    let hs = hintsOf rates (leftBy No) rs in
+    let e : length list / 12 ≡ length hs = sym (length-hints rates (leftBy No) rs ∙ length-recordsOf list) in
     rw (← recordsFrom-all list)
-    (ap (λ (m : ℕ). forwards m 0 (hintBytes (hintsOf rates rs) ++ t)) e
-    ∙ forwards-follow keep (hintsOf rates rs) t
-    ∙ ap (λ (c : List Bit). bitBytes c ++ t) (follow-pick after (step rates) (λ b. b) rs keep ∙ sym (least-pick rates rs)))
+    (ap (λ (m : ℕ). forwards m 0 (hintBytes hs ++ t)) e
+    ∙ forwards-follow keep hs t
+    ∙ ap (λ (c : List Bit). bitBytes c ++ t) (follow-pick after (step rates) (leftBy No) rs keep ∙ sym (least-pick rates rs)))
 
 -- what both sweeps leave
 pub least-in : (rates : Rates) (list before middle after : List ℕ) (r : ℕ) → Back rates list (length list / 12) before middle r → after ≡ forwards (length list / 12) 0 middle → LeastIn rates list before after r
@@ -115,5 +147,5 @@ least-in rates list before middle after r b e =
       area =
           e ∙ ap (forwards (length list / 12) 0) (b .area) ∙ forwards-least rates list (drop (length list / 12) before)
           ∙ ap (λ (k : ℕ). bitBytes (least rates (recordsOf list)) ++ drop k before) (sym n);
-      cost-is = b .least-cost ∙ ap (λ (x : List Record). bestOf rates x keep) (sym (recordsFrom-all list)) ∙ sym (least-cost rates (recordsOf list));
+      cost-is = b .least-cost ∙ ap (λ (x : List Record). bestOf rates x No) (sym (recordsFrom-all list)) ∙ sym (least-cost rates (recordsOf list));
     }

@@ -1,20 +1,23 @@
 -- The two sweeps over plain lists, and what they leave: the least choice and its cost.
 -- Assumes nothing.
-use Prim.Native.Nat.{ℕ, zero, suc, _+_, _*_, _/_, _%_, _≤_, _<_}
+use Prim.Native.Nat.{ℕ, zero, suc, _+_, _-_, _*_, _/_, _%_, _≤_}
 use mathlib.Core.Path.{_≡_}
 use mathlib.Core.Bool.{cond}
 use mathlib.Core.List.{List, [], _∷_, _++_}
 use lib.Dec.{eqb}
 use lib.ListN.{length, drop}
 use Rattle.format.specs.declared.Record.{Record}
-use Rattle.format.specs.Record.{recordsOf, recordsFrom}
-use Rattle.format.specs.Meaning.{sizeOf}
+use Rattle.format.specs.Record.{rowAt, recordOf, recordsOf, recordsFrom}
+use Rattle.price.specs.declared.Cost.{Cost}
 use Rattle.price.specs.declared.Rates.{Rates}
 use Rattle.price.specs.Price.{RatesFit}
 use Rattle.area.specs.Area.{over}
-use Rattle.choice.specs.Choice.{Bit, keep, bitByte, bitBytes, freedom, costOf, least}
-use Rattle.choice.specs.Path.{decide, at, best, hints, after, step}
+use Rattle.join.specs.declared.Open.{Open}
+use Rattle.join.specs.declared.Open.the-variants.{No, One}
+use Rattle.choice.specs.Choice.{Bit, keep, store, bitByte, bitBytes, freedom, chosenRecord, costOf, least}
+use Rattle.choice.specs.Path.{decide, at, best, hints, after, added, step}
 use Rattle.sweep.specs.declared.Turn.{Turn}
+use Rattle.sweep.specs.declared.Way.{Way}
 
 -- two bits in a byte: what to do after a kept, and after a stored record
 abbrev pub hintByte : Bit × Bit → ℕ
@@ -24,28 +27,57 @@ abbrev pub hintBytes : List (Bit × Bit) → List ℕ
 hintBytes [] = []
 hintBytes (h ∷ hs) = hintByte h ∷ hintBytes hs
 
--- one record of the sweep from the rear, where the rest costs at least `kept` after it is kept and `stored` after it is stored: what keeping it
--- comes to, storing it after a kept record, and storing it after a stored one
-abbrev pub turned : Rates → Record → ℕ → ℕ → Turn
-turned rates r kept stored =
-    let k = rates .kept .0 + kept in
-    let f = rates .fresh .0 + rates .byte .0 * sizeOf r + stored in
-    let j = rates .byte .0 * sizeOf r + stored in
-    let d = decide (freedom r) k f in
-    let e = decide (freedom r) k j in
-    record { kept = record { 0 = at d k f }; stored = record { 0 = at e k j }; hint = hintByte (d, e) }
+-- the better way with a record after the state o, where the rest costs at least `kept` after it is kept and `stored` after it is stored: what it comes
+-- to, and its bit
+abbrev pub wayOf : Rates → Open → Record → ℕ → ℕ → Way
+wayOf rates o r kept stored =
+    let k = step rates o r keep + kept in
+    let n = step rates o r store + stored in
+    let b = decide (freedom r) k n in
+    record { cost = record { 0 = at b k n }; bit = bitByte b }
 
-pub record Turned (rates : Rates) (r : Record) (kept stored : ℕ) (t : Turn) : Type 0 where
-  pub is : t ≡ turned rates r kept stored
-  pub kept-most : t .kept .0 < rates .fresh .0 + stored + 1099511627776
-  pub stored-most : t .stored .0 < stored + 1099511627776
+-- no step costs more
+abbrev pub stepMost : ℕ
+stepMost = 1099528339201
 
--- the least cost of the records, after the bit b
-abbrev pub bestOf : Rates → List Record → Bit → ℕ
-bestOf rates rs b = best after (step rates) rs b
+pub record Better (rates : Rates) (o : Open) (r : Record) (kept stored : ℕ) (w : Way) : Type 0 where
+  pub is : w ≡ wayOf rates o r kept stored
+  pub cost-most : w .cost .0 ≤ stored + stepMost
+  pub bit-most : w .bit ≤ 1
 
-abbrev pub hintsOf : Rates → List Record → List (Bit × Bit)
-hintsOf rates rs = hints after (step rates) (λ b. b) rs
+-- what a record adds
+pub record Adds (rates : Rates) (o : Open) (r : Record) (d : Cost) : Type 0 where
+  pub is : d .0 ≡ added rates o r
+  pub most : d .0 ≤ stepMost
+
+-- the record before record i of a list, if there is one
+abbrev pub beforeAt : List ℕ → ℕ → Open
+beforeAt list i = cond (eqb i 0) No (One (recordOf (rowAt list (i - 1))))
+
+-- the record before, as its bit leaves it
+abbrev pub leftBy : Open → Bit → Open
+leftBy No b = No
+leftBy (One r) b = One (chosenRecord b r)
+
+-- one record of the sweep from the rear, after the record before it: what it comes to where that one is kept, and where it is stored
+abbrev pub turned : Rates → Open → Record → ℕ → ℕ → Turn
+turned rates o r kept stored =
+    let k = wayOf rates (leftBy o keep) r kept stored in
+    let n = wayOf rates (leftBy o store) r kept stored in
+    record { kept = k .cost; stored = n .cost; hint = k .bit + 2 * n .bit }
+
+pub record Turned (rates : Rates) (o : Open) (r : Record) (kept stored : ℕ) (t : Turn) : Type 0 where
+  pub is : t ≡ turned rates o r kept stored
+  pub kept-most : t .kept .0 ≤ stored + stepMost
+  pub stored-most : t .stored .0 ≤ stored + stepMost
+
+-- the least cost of the records, after the state o
+abbrev pub bestOf : Rates → List Record → Open → ℕ
+bestOf rates rs o = best after (step rates) rs o
+
+-- the hints for the records, after the state that g gives for each bit before them
+abbrev pub hintsOf : Rates → (Bit → Open) → List Record → List (Bit × Bit)
+hintsOf rates g rs = hints after (step rates) g rs
 
 -- what the sweeps ask: n records, and a byte for each
 pub record Room (rates : Rates) (list : List ℕ) (n : ℕ) (choice : List ℕ) : Type 0 where
@@ -56,8 +88,8 @@ pub record Room (rates : Rates) (list : List ℕ) (n : ℕ) (choice : List ℕ) 
 
 -- after the sweep from the rear
 pub record Back (rates : Rates) (list : List ℕ) (n : ℕ) (before after : List ℕ) (r : ℕ) : Type 0 where
-  pub least-cost : r ≡ bestOf rates (recordsFrom list n 0) keep
-  pub area : after ≡ hintBytes (hintsOf rates (recordsFrom list n 0)) ++ drop n before
+  pub least-cost : r ≡ bestOf rates (recordsFrom list n 0) No
+  pub area : after ≡ hintBytes (hintsOf rates (leftBy No) (recordsFrom list n 0)) ++ drop n before
 
 -- the bit after the bit b, where the two to choose from are in the byte h
 abbrev pub nextBit : ℕ → ℕ → ℕ

@@ -3,13 +3,22 @@
 // From the rear: the least cost of what follows a kept and a stored record, and for each record two bits, what to do after either.
 // From the front: each pair of bits becomes the choice byte.
 ghost use mathlib.Core.Path.{_≡_};
-ghost use Prim.Native.Nat.{_/_, _≤_};
+ghost use Prim.Native.Nat.{_*_, _/_, _≤_};
 ghost use lib.ListN.{length};
 ghost use Rattle.price.specs.Price.{RatesFit};
-ghost use Rattle.sweep.specs.Sweep.{Turned, Room, Back, nextBit, forwards, LeastIn};
+ghost use Rattle.choice.specs.Choice.{store};
+ghost use Rattle.choice.specs.Path.{entryOf, bytesIn};
+ghost use Rattle.sweep.specs.Sweep.{Adds, Better, leftBy, Turned, beforeAt, Room, Back, nextBit, forwards, LeastIn};
 use format::Record;
+use join::Open;
 use price::Cost;
 use price::Rates;
+
+// The better way with a record: the least cost from it on, and its bit.
+pub struct Way {
+    pub cost: Cost,
+    pub bit: u8,
+}
 
 // What a record comes to: the least costs from it on, after a kept and after a stored record, and its two bits.
 pub struct Turn {
@@ -18,41 +27,96 @@ pub struct Turn {
     pub hint: u8,
 }
 
-// One record from the rear: `kept` and `stored` are the least costs of what follows it, after it is kept and after it is stored.
-fn weigh(rates: Rates, record: Record, kept: Cost, stored: Cost) -> Turn
-    requires { ⌜ (RatesFit rates) × (kept .0 ≤ 4503599644082176) × (stored .0 ≤ 4503599644082176) ⌝ }
-    ensures { λ t. ⌜ Turned rates «record» (kept .0) (stored .0) t ⌝ }
+// What an entry costs, by its kind.
+fn entry_of(rates: Rates, record: Record) -> Cost
+    requires { ⌜ RatesFit rates ⌝ }
+    ensures { λ r. ⌜ (r .0 ≡ entryOf rates «record») × (r .0 ≤ 16711425) ⌝ }
 {
-    let bytes = price::storing(rates, format::size_of(record));
-    let keep = Cost(rates.kept.0 + kept.0);
-    let fresh = Cost(rates.fresh.0 + bytes.0 + stored.0);
-    let joined = Cost(bytes.0 + stored.0);
+    match record {
+        Record::New(_) => rates.fresh,
+        Record::Match(_, _) => rates.kept,
+    }
+}
+
+// What the stored bytes of an entry cost.
+fn bytes_in(rates: Rates, record: Record) -> Cost
+    requires { ⌜ RatesFit rates ⌝ }
+    ensures { λ r. ⌜ (r .0 ≡ bytesIn rates «record») × (r .0 ≤ 1099511627776) ⌝ }
+{
+    match record {
+        Record::New(size) => price::storing(rates, size),
+        Record::Match(_, _) => Cost(0),
+    }
+}
+
+// What a record adds to the cost after the one before it: an entry, unless the two join, and its stored bytes.
+fn added(rates: Rates, before: Open, record: Record) -> Cost
+    requires { ⌜ RatesFit rates ⌝ }
+    ensures { λ r. ⌜ Adds rates before «record» r ⌝ }
+{
+    let bytes = bytes_in(rates, record);
+    if join::follows(before, record) {
+        return bytes;
+    }
+    Cost(entry_of(rates, record).0 + bytes.0)
+}
+
+// The better way with a record after the one before it: `kept` and `stored` are the least costs of what follows it, after it is kept and after it is
+// stored.
+fn better(rates: Rates, before: Open, record: Record, kept: Cost, stored: Cost) -> Way
+    requires { ⌜ (RatesFit rates) × (kept .0 ≤ 4503668077367296) × (stored .0 ≤ 4503668077367296) ⌝ }
+    ensures { λ w. ⌜ Better rates before «record» (kept .0) (stored .0) w ⌝ }
+{
+    let keep = Cost(added(rates, before, record).0 + kept.0);
+    let store = Cost(added(rates, before, choice::chosen(record, 1)).0 + stored.0);
     if let Record::New(_) = record {
-        return Turn {
-            kept: fresh,
-            stored: joined,
-            hint: 3,
+        return Way {
+            cost: store,
+            bit: 1,
         };
     }
-    if keep.0 <= fresh.0 {
-        if rates.kept.0 + kept.0 <= joined.0 {
-            return Turn {
-                kept: keep,
-                stored: keep,
-                hint: 0,
-            };
-        }
-        return Turn {
-            kept: keep,
-            stored: joined,
-            hint: 2,
-        };
+    if keep.0 <= store.0 {
+        return Way { cost: keep, bit: 0 };
     }
+    Way {
+        cost: store,
+        bit: 1,
+    }
+}
+
+// The record before, stored.
+fn stored_before(before: Open) -> Open
+    ensures { λ r. ⌜ r ≡ leftBy before store ⌝ }
+{
+    let Open::One(record) = before else {
+        return Open::No;
+    };
+    Open::One(choice::chosen(record, 1))
+}
+
+// One record from the rear, after the one before it, kept or stored.
+fn weigh(rates: Rates, before: Open, record: Record, kept: Cost, stored: Cost) -> Turn
+    requires { ⌜ (RatesFit rates) × (kept .0 ≤ 4503668077367296) × (stored .0 ≤ 4503668077367296) ⌝ }
+    ensures { λ t. ⌜ Turned rates before «record» (kept .0) (stored .0) t ⌝ }
+{
+    let k = better(rates, before, record, kept, stored);
+    let s = better(rates, stored_before(before), record, kept, stored);
     Turn {
-        kept: fresh,
-        stored: joined,
-        hint: 3,
+        kept: Cost(k.cost.0),
+        stored: Cost(s.cost.0),
+        hint: k.bit + 2 * s.bit,
     }
+}
+
+// The record before record i, if there is one.
+fn before_at(list: &[u8], i: usize) -> Open
+    requires { ⌜ 12 * i ≤ length (now list) ⌝ }
+    ensures { λ r. ⌜ r ≡ beforeAt (now (list .entry)) i ⌝ }
+{
+    if i == 0 {
+        return Open::No;
+    }
+    Open::One(format::record_at(list, i - 1))
 }
 
 // The sweep from the rear: the two bits of each record, and the least cost of all.
@@ -65,7 +129,7 @@ fn backwards(rates: Rates, list: &[u8], n: usize, choice: &mut [u8]) -> Cost
     let mut stored = Cost(0);
     while 0 < i {
         i -= 1;
-        let t = weigh(rates, format::record_at(list, i), kept, stored);
+        let t = weigh(rates, before_at(list, i), format::record_at(list, i), kept, stored);
         choice[i] = t.hint;
         kept = t.kept;
         stored = t.stored;

@@ -1,0 +1,27 @@
+-- `sweep::bytes_in` meets its contract, by the kind. Assumes nothing.
+use native.Mathlib.Omega.{arith}
+use mathlib.Core.Path.{sym, _∙_, ap}
+use Rattle.choice.specs.Path.{bytesIn}
+use borrow.Author.Needs.{needs}
+use Rattle.sweep.proofs.bytes_in.Statement.{statement}
+use Rattle.sweep.proofs.bytes_in.Tie as tie
+
+enum-known-record : tie.Need-enum-known-record
+enum-known-record c = search needs
+
+storing-requires : tie.Need-storing-requires
+storing-requires c κs = search needs
+
+enum-told : tie.Need-enum-told
+enum-told c = search needs
+
+returns : tie.Need-returns
+returns c =
+    let g = c .before .before .before .before .args in
+    (c .storing .ensures .is ∙ sym (ap (bytesIn (g .rates)) (c .before .before .«record» .given .1)), omega (arith, c .storing .ensures .most))
+
+returns-2 : tie.Need-returns-2
+returns-2 c = search needs
+
+pub bytes-in-spec : {M : Type 1} → statement M
+bytes-in-spec = tie.close (tie.spec enum-known-record storing-requires enum-told returns returns-2)
