@@ -4,7 +4,7 @@
 use Prim.Native.Nat.{ℕ}
 use native.Mathlib.Omega.{arith}
 use mathlib.Core.Path.{_≡_, refl, _∙_, ap}
-use mathlib.Core.Bool.{Bool, true, false, cond}
+use mathlib.Core.Bool.{Bool, true, false, cond, _&&_, _||_}
 use mathlib.Core.List.{List, [], _∷_}
 use Rattle.format.specs.declared.Record.{Record}
 use Rattle.format.specs.declared.Record.the-variants.{New, Match}
@@ -12,6 +12,7 @@ use Rattle.format.specs.Meaning.{sizeOf}
 use Rattle.join.specs.Join.{joins, grown, joinsFirst, join, tidy}
 use Rattle.join.proofs.Joining.{join-on}
 use Rattle.choice.specs.Choice.{Bit, keep, store, freedom, May, IsChoice, chosenRecord, chosen, listOf}
+use Rattle.choice.specs.Alone.{isKept, firstKept, storesAlone}
 
 pub keep-store : {A : Type 0} → keep ≡ store → A
 keep-store e = absurd (let z : _≡_ {A = ℕ} 0 1 = cc in omega arith)
@@ -103,3 +104,62 @@ lifted rs c h d k =
     let i = carried (chosen rs c) d k in
     let j = chosen-again rs c (unjoined (chosen rs c) d) h (i .0) in
     (unjoined (chosen rs c) d, j .0, ap tidy (j .1) ∙ i .1)
+
+-- ---- a choice that stores no match alone
+
+or-false : (x y : Bool) → (x || y) ≡ false → (x ≡ false) × (y ≡ false)
+or-false true y e = (e, cc)
+or-false false y e = (refl, e)
+
+-- what f makes of a choice of t stores no match of rs alone, where that choice stores none of t alone
+abbrev Spared : List Record → List Record → (List Bit → List Bit) → Type 0
+Spared rs t f = (d : List Bit) → IsChoice t d → (firstKept (f d) ≡ firstKept d) × ((k : Bool) → storesAlone k t d ≡ false → storesAlone k rs (f d) ≡ false)
+
+-- a stored match before a stored record is not alone
+beside-stored : (k x y : Bool) → x ≡ false → y ≡ false → ((k && x) || y) ≡ false
+beside-stored true x y e h = rw e h
+beside-stored false x y e h = h
+
+module _ (r : Record) (rs : List Record) (f : List Bit → List Bit) where
+  spared-apart : (t : List Record) → Spared rs t f → (b : Bit) (d : List Bit) → IsChoice t d → (k : Bool) → storesAlone k (r ∷ t) (b ∷ d) ≡ false → storesAlone k (r ∷ rs) (b ∷ f d) ≡ false
+  spared-apart t h b d c k e = go r b e
+    where
+      i : (firstKept (f d) ≡ firstKept d) × ((j : Bool) → storesAlone j t d ≡ false → storesAlone j rs (f d) ≡ false)
+      i = h d c
+
+      go : (q : Record) (b : Bit) → storesAlone k (q ∷ t) (b ∷ d) ≡ false → storesAlone k (q ∷ rs) (b ∷ f d) ≡ false
+      go (New s) b e = i .1 (isKept b) e
+      go (Match s a) keep e = i .1 true e
+      go (Match s a) store e =
+          let o = or-false (k && firstKept d) (storesAlone false t d) e in
+          rw (i .0, o .0) (i .1 false (o .1))
+
+  spared-together : (q : Record) (t : List Record) → joins r q ≡ true → Spared rs (q ∷ t) f → (b : Bit) (d : List Bit) → IsChoice (q ∷ t) (b ∷ d) → (k : Bool)
+      → storesAlone k (grown r (sizeOf q) ∷ t) (b ∷ d) ≡ false → storesAlone k (r ∷ rs) (b ∷ f (b ∷ d)) ≡ false
+  spared-together q t j h b d c k e = go r q b j e (h (b ∷ d) c)
+    where
+      go : (r q : Record) (b : Bit) → joins r q ≡ true → storesAlone k (grown r (sizeOf q) ∷ t) (b ∷ d) ≡ false
+          → (firstKept (f (b ∷ d)) ≡ isKept b) × ((k : Bool) → storesAlone k (q ∷ t) (b ∷ d) ≡ false → storesAlone k rs (f (b ∷ d)) ≡ false)
+          → storesAlone k (r ∷ rs) (b ∷ f (b ∷ d)) ≡ false
+      go (New s) (New u) b j e i = i .1 (isKept b) e
+      go (New s) (Match u a) b j e i = cc
+      go (Match s a) (New u) b j e i = cc
+      go (Match s a) (Match u x) keep j e i = i .1 true e
+      go (Match s a) (Match u x) store j e i =
+          beside-stored k (firstKept (f (store ∷ d))) (storesAlone false rs (f (store ∷ d))) (i .0) (i .1 false (or-false (k && firstKept d) (storesAlone false t d) e .1))
+
+  spared-join : (t : List Record) → Spared rs t f → (b : Bit) (d : List Bit) → IsChoice (join r t) (b ∷ d) → (k : Bool)
+      → storesAlone k (join r t) (b ∷ d) ≡ false → storesAlone k (r ∷ rs) (b ∷ f (cond (joinsFirst r t) (b ∷ d) d)) ≡ false
+  spared-join [] h b d c k e = spared-apart [] h b d (c .1) k e
+  spared-join (q ∷ t) h b d c k e = go (joins r q) refl c e
+    where
+      go : (x : Bool) → joins r q ≡ x → IsChoice (cond x (grown r (sizeOf q) ∷ t) (r ∷ q ∷ t)) (b ∷ d)
+          → storesAlone k (cond x (grown r (sizeOf q) ∷ t) (r ∷ q ∷ t)) (b ∷ d) ≡ false → storesAlone k (r ∷ rs) (b ∷ f (cond x (b ∷ d) d)) ≡ false
+      go true j c e = spared-together q t j h b d (rw (free-grown r (sizeOf q), free-joins r q j) at (c .0), c .1) k e
+      go false j c e = spared-apart (q ∷ t) h b d (c .1) k e
+
+pub spared : (rs : List Record) → Spared rs (tidy rs) (unjoined rs)
+spared [] [] c = (refl, λ k e. e)
+spared [] (b ∷ d) c = absurd c
+spared (r ∷ rs) [] c = (refl, λ k e. refl)
+spared (r ∷ rs) (b ∷ d) c = (refl, spared-join r rs (unjoined rs) (tidy rs) (spared rs) b d c)

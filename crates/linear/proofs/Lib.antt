@@ -2,7 +2,6 @@ pub mod Fusing
 pub mod Looks
 pub mod Running
 pub mod Recovering
-pub mod Alone
 pub mod Theorems
 pub mod Gap
 pub mod Carrying

@@ -1,4 +1,4 @@
--- From the list loaded to the pass's looks and items.
+-- From the list loaded, its runs joined, to the pass's looks and items.
 -- Assumes nothing.
 use Prim.Native.Nat.{_-_, _*_, _≤_}
 use native.Mathlib.Omega.{arith}
@@ -10,6 +10,8 @@ use Rattle.format.specs.Limits.{versionMost}
 use Rattle.format.specs.Meaning.{whole}
 use Rattle.price.specs.declared.Rates.{Rates}
 use Rattle.price.specs.Price.{RatesFit}
+use Rattle.join.specs.Join.{tidy}
+use Rattle.join.proofs.Joining.{whole-tidy}
 use Rattle.rules.specs.Rules.{Item, testsOf}
 use Rattle.linear.specs.declared.Machine.{Machine}
 use Rattle.linear.specs.declared.Passed.{Passed}
@@ -18,21 +20,21 @@ use Rattle.linear.specs.Machine.{rightOf, endOf, Loaded, Runnable, Ran}
 use Rattle.linear.proofs.Theorems.{length-items, bytes-items}
 
 module _ (rates : Rates) (rs : List Record) (m : Machine) where
-  pub runnable-of-loaded : RatesFit rates → Loaded m (items rs) → whole rs ≤ versionMost → Runnable rates m
+  pub runnable-of-loaded : RatesFit rates → Loaded m (items (tidy rs)) → whole rs ≤ versionMost → Runnable rates m
   runnable-of-loaded p h w =
       record {
         rates-fit = p;
         loaded = record { gap = h .gap; within = h .within; rear = h .rear; front = h .front; holds = refl };
-        fits = omega (arith, ap bytes (h .holds), bytes-items rs);
+        fits = omega (arith, ap bytes (h .holds), bytes-items (tidy rs), whole-tidy rs);
       }
 
-  module _ (r : Passed) (h : Loaded m (items rs)) (v : Ran rates (rightOf m) r) where
+  module _ (r : Passed) (h : Loaded m (items (tidy rs))) (v : Ran rates (rightOf m) r) where
     pub looks-of-ran : r .looks ≡ passLooks rates rs
     unfolding passOutcomes
     looks-of-ran = v .looks-are ∙ ap (λ (xs : List Item). length (pass (testsOf rates) xs .outcomes)) (h .holds)
 
-    pub few-of-ran : r .looks ≤ 2 * length rs - 1
-    few-of-ran = omega (arith, v .few-looks, ap length (h .holds), length-items rs)
+    pub few-of-ran : r .looks ≤ 2 * length (tidy rs) - 1
+    few-of-ran = omega (arith, v .few-looks, ap length (h .holds), length-items (tidy rs))
 
     pub end-of-ran : endOf (r .list) ≡ passItems rates rs
     unfolding endItems

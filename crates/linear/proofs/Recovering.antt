@@ -1,21 +1,75 @@
--- A list that some records were fused into is the list of the choice that it stands for.
+-- A list that the items of a tidy form were fused into is the list of the choice that is read off by sizes, over the records as handed in; and that
+-- choice stores no match alone.
+-- In order: a choice is read off its own list; items that were fused are the list of a choice of the tidy form; and so of one of the records.
 -- Assumes nothing.
-use Prim.Native.Nat.{ℕ, _+_, _-_, _<_}
+use Prim.Native.Nat.{ℕ, _+_, _-_, _≤_, _<_}
 use native.Mathlib.Omega.{arith}
-use mathlib.Core.Path.{_≡_, refl, ap}
-use mathlib.Core.Bool.{Bool, false}
+use mathlib.Core.Path.{_≡_, refl, sym, ap, _∙_}
+use mathlib.Core.Bool.{Bool, true, false, not, cond}
 use mathlib.Core.List.{List, [], _∷_}
 use borrow.Author.Tests.{lt-ltb, le-ltb}
 use Rattle.format.specs.declared.Record.{Record}
 use Rattle.format.specs.declared.Record.the-variants.{New, Match}
 use Rattle.format.specs.Meaning.{sizeOf}
 use Rattle.format.specs.WellFormed.{Sized}
-use Rattle.join.specs.Join.{join}
-use Rattle.join.proofs.Joining.{join-match}
-use Rattle.choice.specs.Choice.{store, freedom, May, IsChoice, listOf}
+use Rattle.join.specs.Join.{joins, grown, joinsFirst, join, tidy, Settled}
+use Rattle.join.proofs.Joining.{join-off, settled-tidy}
+use Rattle.choice.specs.Choice.{Bit, keep, store, freedom, May, IsChoice, chosenRecord, listOf}
+use Rattle.choice.specs.Alone.{firstKept, storesAlone}
+use Rattle.choice.proofs.Lists.{size-chosen, sized-list}
+use Rattle.choice.proofs.Unjoining.{keep-store, unjoined, carried, spared}
 use Rattle.rules.specs.Rules.{Item, new, match, size, isNew}
-use Rattle.linear.specs.Pass.{first, items, cut, choiceOf}
-use Rattle.linear.proofs.Fusing.{Tidy, Fused, none, takeNew, takeMatch, moreNew, moreMatch, keepMatch}
+use Rattle.rules.proofs.ByKind.{and-false}
+use Rattle.linear.specs.Pass.{first, itemFor, items, shrunk, cut, bitFor, choiceOf}
+use Rattle.linear.proofs.Fusing.{Tidy, Fused, Fuses, none, takeNew, takeMatch, moreNew, moreMatch, keepMatch}
+
+-- ---- a choice is read off its own list
+
+cut-all : (s : ℕ) (r : Record) (is : List Item) → sizeOf r ≡ s → cut s (itemFor r) is ≡ is
+cut-all s (New t) is e = rw (le-ltb s t (omega arith))
+cut-all s (Match t a) is e = rw (le-ltb s t (omega arith))
+
+-- of two that joined, the second is left
+cut-grown : (s : ℕ) (r q : Record) (is : List Item) → sizeOf r ≡ s → 1 ≤ sizeOf q → joins r q ≡ true → cut s (itemFor (grown r (sizeOf q))) is ≡ itemFor q ∷ is
+cut-grown s (New u) (New t) is e h j = let d : u + t - s ≡ t = omega arith in rw (lt-ltb s (u + t) (omega arith), d)
+cut-grown s (New u) (Match t b) is e h j = cc
+cut-grown s (Match u a) (New t) is e h j = cc
+cut-grown s (Match u a) (Match t b) is e h j = let d : u + t - s ≡ t = omega arith in rw (lt-ltb s (u + t) (omega arith), d)
+
+bit-grown : (r : Record) (t : ℕ) → bitFor (itemFor (grown r t)) ≡ bitFor (itemFor r)
+bit-grown (New s) t = refl
+bit-grown (Match s a) t = refl
+
+bit-chosen : (r : Record) (b : Bit) → May (freedom r) b → bitFor (itemFor (chosenRecord b r)) ≡ b
+bit-chosen (New s) keep h = keep-store h
+bit-chosen (New s) store h = refl
+bit-chosen (Match s a) keep h = refl
+bit-chosen (Match s a) store h = refl
+
+module _ (r : Record) (rs : List Record) (b : Bit) (c : List Bit) (may : May (freedom r) b) where
+  read-item : (i : Item) (is : List Item) (l : List Record) → bitFor i ≡ b → cut (sizeOf r) i is ≡ items l → choiceOf rs (items l) ≡ c → choiceOf (r ∷ rs) (i ∷ is) ≡ b ∷ c
+  unfolding choiceOf
+  read-item i is l e f h = rw (e, f, h)
+
+  read-join : (l : List Record) → Sized l → choiceOf rs (items l) ≡ c → choiceOf (r ∷ rs) (items (join (chosenRecord b r) l)) ≡ b ∷ c
+  read-join [] k h = read-item (itemFor (chosenRecord b r)) [] [] (bit-chosen r b may) (cut-all (sizeOf r) (chosenRecord b r) [] (size-chosen b r)) h
+  read-join (q ∷ l) k h = go (joins (chosenRecord b r) q) refl
+    where
+      go : (y : Bool) → joins (chosenRecord b r) q ≡ y → choiceOf (r ∷ rs) (items (cond y (grown (chosenRecord b r) (sizeOf q) ∷ l) (chosenRecord b r ∷ q ∷ l))) ≡ b ∷ c
+      go true e =
+          read-item (itemFor (grown (chosenRecord b r) (sizeOf q))) (items l) (q ∷ l) (bit-grown (chosenRecord b r) (sizeOf q) ∙ bit-chosen r b may)
+          (cut-grown (sizeOf r) (chosenRecord b r) q (items l) (size-chosen b r) (k .0) e) h
+      go false e =
+          read-item (itemFor (chosenRecord b r)) (items (q ∷ l)) (q ∷ l) (bit-chosen r b may) (cut-all (sizeOf r) (chosenRecord b r) (items (q ∷ l)) (size-chosen b r)) h
+
+read-back : (rs : List Record) (c : List Bit) → Sized rs → IsChoice rs c → choiceOf rs (items (listOf rs c)) ≡ c
+unfolding choiceOf
+read-back [] [] k h = refl
+read-back [] (b ∷ c) k h = absurd h
+read-back (r ∷ rs) [] k h = absurd h
+read-back (r ∷ rs) (b ∷ c) k h = read-join r rs b c (h .0) (listOf rs c) (sized-list rs c (h .1) (k .1)) (read-back rs c (k .1) (h .1))
+
+-- ---- items that were fused
 
 items-join : (s : ℕ) (l : List Record) (is : List Item) → items l ≡ is → isNew (first is) ≡ false → items (join (New s) l) ≡ new s ∷ is
 items-join s [] is e n = cc
@@ -27,44 +81,86 @@ items-join-new s t [] is e = cc
 items-join-new s t (New u ∷ l) is e = cc
 items-join-new s t (Match u a ∷ l) is e = cc
 
-pub cut-all : (s : ℕ) (i : Item) (is : List Item) → size i ≡ s → cut s i is ≡ is
-cut-all s i is e = rw (le-ltb s (size i) (omega arith))
+-- a kept match that does not join the next record does not join what a choice leaves of it
+kept-apart : (s a : ℕ) (rs : List Record) (c : List Bit) → joinsFirst (Match s a) rs ≡ false → join (Match s a) (listOf rs c) ≡ Match s a ∷ listOf rs c
+kept-apart s a [] c e = refl
+kept-apart s a (r ∷ rs) [] e = refl
+kept-apart s a (r ∷ rs) (keep ∷ c) e = join-off (Match s a) r (listOf rs c) e
+kept-apart s a (r ∷ rs) (store ∷ c) e = join-off (Match s a) (New (sizeOf r)) (listOf rs c) refl
 
-pub cut-some : (s t : ℕ) (is : List Item) → 0 < t → cut s (new (s + t)) is ≡ new t ∷ is
-cut-some s t is h = let e : s + t - s ≡ t = omega arith in rw (lt-ltb s (s + t) (omega arith), e)
+-- where the first item may join one before it, that one is stored
+abbrev Before : Bool → Bool → Type 0
+Before true k = k ≡ false
+Before false k = Unit {0}
 
-pub size-fused : {j : Bool} (rs : List Record) {s : ℕ} {is : List Item} → Sized rs → Fused j (items rs) (new s ∷ is) → 0 < s
-size-fused (New a ∷ rs) h (takeNew d) = h .0
-size-fused (New a ∷ rs) h (moreNew d) = omega (arith, h .0)
-size-fused (Match a x ∷ rs) h (takeMatch d) = h .0
-size-fused (Match a x ∷ rs) h (moreMatch d) = omega (arith, h .0)
+-- a choice of js whose list has these items; it stores no match alone, k saying whether the record before is kept
+record Found (j : Bool) (js : List Record) (is : List Item) : Type 0 where
+  choice : List Bit
+  fits : IsChoice js choice
+  listed : items (listOf js choice) ≡ is
+  begins : firstKept choice ≡ not (isNew (first is))
+  alone : (k : Bool) → Before j k → storesAlone k js choice ≡ false
+
+found : {j : Bool} (js : List Record) (is : List Item) → Settled js → Tidy is → Fused j (items js) is → Found j js is
+found [] is h n none = record { choice = []; fits = tt; listed = refl; begins = refl; alone = λ k b. refl }
+found (New s ∷ js) is h n (takeNew {ys} d) =
+    let i = found js ys (h .1) (n .1) d in
+    record {
+      choice = store ∷ i .choice;
+      fits = (refl, i .fits);
+      listed = items-join s (listOf js (i .choice)) ys (i .listed) (n .0);
+      begins = refl;
+      alone = λ k b. i .alone false tt;
+    }
+found (New s ∷ js) is h n (moreNew {b = t} {ys} d) =
+    let i = found js (new t ∷ ys) (h .1) n d in
+    record {
+      choice = store ∷ i .choice;
+      fits = (refl, i .fits);
+      listed = items-join-new s t (listOf js (i .choice)) ys (i .listed);
+      begins = refl;
+      alone = λ k b. i .alone false refl;
+    }
+found (Match s a ∷ js) is h n (keepMatch {ys} d) =
+    let i = found js ys (h .1) n d in
+    record {
+      choice = keep ∷ i .choice;
+      fits = (tt, i .fits);
+      listed = ap items (kept-apart s a js (i .choice) (h .0)) ∙ ap (λ (l : List Item). match s ∷ l) (i .listed);
+      begins = refl;
+      alone = λ k b. i .alone true tt;
+    }
+found (Match s a ∷ js) is h n (takeMatch {ys} d) =
+    let i = found js ys (h .1) (n .1) d in
+    record {
+      choice = store ∷ i .choice;
+      fits = (tt, i .fits);
+      listed = items-join s (listOf js (i .choice)) ys (i .listed) (n .0);
+      begins = refl;
+      alone = λ k b. rw b (i .alone false tt);
+    }
+found (Match s a ∷ js) is h n (moreMatch {b = t} {ys} d) =
+    let i = found js (new t ∷ ys) (h .1) n d in
+    record {
+      choice = store ∷ i .choice;
+      fits = (tt, i .fits);
+      listed = items-join-new s t (listOf js (i .choice)) ys (i .listed);
+      begins = refl;
+      alone = λ k b. rw (i .begins, and-false k) (i .alone false refl);
+    }
+
+-- ---- over the records as handed in
 
 pub record Recovered (rs : List Record) (is : List Item) : Type 0 where
   pub choice : IsChoice rs (choiceOf rs is)
   pub listed : items (listOf rs (choiceOf rs is)) ≡ is
+  pub alone : storesAlone true rs (choiceOf rs is) ≡ false
 
--- a record that may be stored, as the last of a new item, and before others of it
-module _ (r : Record) (rs : List Record) (may : May (freedom r) store) where
-  taken : (ys : List Item) → isNew (first ys) ≡ false → Recovered rs ys → Recovered (r ∷ rs) (new (sizeOf r) ∷ ys)
-  unfolding choiceOf
-  taken ys n i =
-      let e : cut (sizeOf r) (new (sizeOf r)) ys ≡ ys = cut-all (sizeOf r) (new (sizeOf r)) ys refl in
-      record { choice = (may, rw e (i .choice)); listed = rw e (items-join (sizeOf r) (listOf rs (choiceOf rs ys)) ys (i .listed) n) }
-
-  more : (b : ℕ) (ys : List Item) → 0 < b → Recovered rs (new b ∷ ys) → Recovered (r ∷ rs) (new (sizeOf r + b) ∷ ys)
-  unfolding choiceOf
-  more b ys h i =
-      let e : cut (sizeOf r) (new (sizeOf r + b)) ys ≡ new b ∷ ys = cut-some (sizeOf r) b ys h in
-      record { choice = (may, rw e (i .choice)); listed = rw e (items-join-new (sizeOf r) b (listOf rs (choiceOf rs (new b ∷ ys))) ys (i .listed)) }
-
-pub recovered : {j : Bool} (rs : List Record) (is : List Item) → Sized rs → Tidy is → Fused j (items rs) is → Recovered rs is
-unfolding choiceOf
-recovered [] is h n none = record { choice = tt; listed = refl }
-recovered (New s ∷ rs) is h n (takeNew {ys} d) = taken (New s) rs refl ys (n .0) (recovered rs ys (h .1) (n .1) d)
-recovered (New s ∷ rs) is h n (moreNew {b} {ys} d) = more (New s) rs refl b ys (size-fused rs (h .1) d) (recovered rs (new b ∷ ys) (h .1) n d)
-recovered (Match s a ∷ rs) is h n (keepMatch {ys} d) =
-    let i : Recovered rs ys = recovered rs ys (h .1) n d in
-    let e : cut s (match s) ys ≡ ys = cut-all s (match s) ys refl in
-    record { choice = (tt, rw e (i .choice)); listed = rw (e, join-match s a (listOf rs (choiceOf rs ys))) (ap (λ (l : List Item). match s ∷ l) (i .listed)) }
-recovered (Match s a ∷ rs) is h n (takeMatch {ys} d) = taken (Match s a) rs tt ys (n .0) (recovered rs ys (h .1) (n .1) d)
-recovered (Match s a ∷ rs) is h n (moreMatch {b} {ys} d) = more (Match s a) rs tt b ys (size-fused rs (h .1) d) (recovered rs (new b ∷ ys) (h .1) n d)
+pub recovered : (rs : List Record) (is : List Item) → Sized rs → Tidy is → Fuses (items (tidy rs)) is → Recovered rs is
+recovered rs is h n d =
+    let i = found (tidy rs) is (settled-tidy rs) n d in
+    let c = unjoined rs (i .choice) in
+    let k = carried rs (i .choice) (i .fits) in
+    let same : items (listOf rs c) ≡ is = ap items (k .1) ∙ i .listed in
+    let read : choiceOf rs is ≡ c = ap (choiceOf rs) (sym same) ∙ read-back rs c h (k .0) in
+    record { choice = rw read (k .0); listed = rw read same; alone = rw read (spared rs (i .choice) (i .fits) .1 true (i .alone true tt)) }

@@ -6,6 +6,7 @@ use mathlib.Core.List.{List}
 use Rattle.format.specs.declared.Record.{Record}
 use Rattle.price.specs.declared.Rates.{Rates}
 use Rattle.price.specs.Price.{scaled}
+use Rattle.join.specs.Join.{tidy}
 use Rattle.rules.specs.Rules.{Tests}
 use Rattle.rules.proofs.AtPrice.{tests-scaled}
 use Rattle.linear.specs.Pass.{items, pass, endItems, passOutcomes, choiceOf, passChoice}
@@ -13,7 +14,7 @@ use Rattle.linear.specs.Pass.{items, pass, endItems, passOutcomes, choic
 module _ (k : ℕ) (above : 0 < k) (r : Rates) (rs : List Record) where
   pub outcomes-scaled : passOutcomes (scaled k r) rs ≡ passOutcomes r rs
   unfolding passOutcomes
-  outcomes-scaled = ap (λ (t : Tests). pass t (items rs) .outcomes) (tests-scaled k above r)
+  outcomes-scaled = ap (λ (t : Tests). pass t (items (tidy rs)) .outcomes) (tests-scaled k above r)
 
   pub pass-scaled : passChoice (scaled k r) rs ≡ passChoice r rs
-  pass-scaled = ap (λ (t : Tests). choiceOf rs (endItems t (items rs))) (tests-scaled k above r)
+  pass-scaled = ap (λ (t : Tests). choiceOf rs (endItems t (items (tidy rs)))) (tests-scaled k above r)

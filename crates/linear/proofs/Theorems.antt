@@ -1,5 +1,5 @@
--- The theorems of the pass, at the rates r: it ends, within 2n - 1 looks; each merge lowers the cost; the end list has no two new
--- items side by side and is the list of the pass's choice, which is a choice.
+-- The theorems of the pass, at the rates r: it ends, within 2n - 1 looks for n records after joining; each merge lowers the cost; the end list has no
+-- two new items side by side and is the list of the pass's choice, which is a choice.
 -- Assumes nothing.
 use Prim.Native.Nat.{ℕ, suc, _+_, _-_, _*_, _≤_}
 use native.Mathlib.Omega.{arith}
@@ -14,15 +14,17 @@ use Rattle.format.specs.Meaning.{whole}
 use Rattle.format.specs.WellFormed.{Sized, NotNew, Apart}
 use Rattle.price.specs.declared.Rates.{Rates}
 use Rattle.price.specs.Price.{cost}
+use Rattle.join.specs.Join.{tidy}
+use Rattle.join.proofs.Joining.{whole-tidy, apart-tidy}
 use Rattle.choice.specs.Choice.{IsChoice, listOf}
 use Rattle.choice.specs.Alone.{storesAlone}
+use Rattle.choice.proofs.Least.{cost-tidy}
 use Rattle.rules.specs.Rules.{Item, new, match, neither, isNew, testsOf}
 use Rattle.linear.specs.Pass.{first, items, bytes, Look, lookAt, mergeIn, mergesIn, joined, pass, passOutcomes, passLooks, passItems, passChoice}
 use Rattle.linear.proofs.Fusing.{Starts, Tidy, weigh}
 use Rattle.linear.proofs.Looks.{Pays, seen, look-turns}
 use Rattle.linear.proofs.Running.{Passes, passes}
 use Rattle.linear.proofs.Recovering.{Recovered, recovered}
-use Rattle.linear.proofs.Alone.{none-alone}
 
 -- what an item adds to the cost; a mark weighs as a match
 abbrev pub priceOf : Rates → Item → ℕ
@@ -70,12 +72,12 @@ pub merge-lowers : (rates : Rates) (l : List Item) (x : Item) (r : List Item) �
     weigh (priceOf rates) (joined (s .next .left) (s .next .right)) + mergeIn (s .outcome) ≤ weigh (priceOf rates) (joined l (x ∷ r))
 merge-lowers rates l x r h = look-turns (testsOf rates) (priceOf rates) (merges-pay rates) (seen (testsOf rates) (priceOf rates) (merges-pay rates) l x r h) .lower
 
-module _ (r : Rates) (rs : List Record) (apart : Apart rs) where
-  pass-of : Passes (testsOf r) (priceOf r) (items rs)
-  pass-of = passes (testsOf r) (priceOf r) (merges-pay r) (items rs) (tidy-of-apart rs apart)
+module _ (r : Rates) (rs : List Record) where
+  pass-of : Passes (testsOf r) (priceOf r) (items (tidy rs))
+  pass-of = passes (testsOf r) (priceOf r) (merges-pay r) (items (tidy rs)) (tidy-of-apart (tidy rs) (apart-tidy rs))
 
-  -- r comes to the rear
-  pub pass-ends : pass (testsOf r) (items rs) .end .right ≡ []
+  -- p comes to the rear
+  pub pass-ends : pass (testsOf r) (items (tidy rs)) .end .right ≡ []
   pass-ends = pass-of .rear
 
   -- the end list never has two new items side by side
@@ -84,36 +86,39 @@ module _ (r : Rates) (rs : List Record) (apart : Apart rs) where
 
   -- and covers as many bytes
   pub pass-bytes : bytes (passItems r rs) ≡ whole rs
-  pass-bytes = pass-of .kept ∙ bytes-items rs
+  pass-bytes = pass-of .kept ∙ bytes-items (tidy rs) ∙ whole-tidy rs
 
--- the pass at the rates r over the records rs: few looks, a choice, whose list is the end list, at no higher cost
+-- the pass at the rates r over the records rs: few looks, a choice, whose list is the end list, at no higher cost than the list that it starts from,
+-- where the runs are joined, which costs no more than the list handed in
 pub record PassHolds (r : Rates) (rs : List Record) : Type 0 where
-  pub few : passLooks r rs ≤ 2 * length rs - 1
+  pub few : passLooks r rs ≤ 2 * length (tidy rs) - 1
   pub choice : IsChoice rs (passChoice r rs)
   pub listed : items (listOf rs (passChoice r rs)) ≡ passItems r rs
-  pub lower : cost r (listOf rs (passChoice r rs)) ≤ cost r rs
+  pub lower : cost r (listOf rs (passChoice r rs)) ≤ cost r (tidy rs)
+  pub joined-lower : cost r (tidy rs) ≤ cost r rs
 
-module _ (r : Rates) (rs : List Record) (sized : Sized rs) (apart : Apart rs) where
+module _ (r : Rates) (rs : List Record) (sized : Sized rs) where
   pub pass-recovered : Recovered rs (passItems r rs)
-  pass-recovered = recovered rs (passItems r rs) sized (pass-of r rs apart .tidy) (pass-of r rs apart .fuses)
+  pass-recovered = recovered rs (passItems r rs) sized (pass-of r rs .tidy) (pass-of r rs .fuses)
 
-  -- the cost of the pass's list is lower than the list's by at least 1 for each merge
-  pub merges-lower : cost r (listOf rs (passChoice r rs)) + mergesIn (passOutcomes r rs) ≤ cost r rs
+  -- the cost of the pass's list is lower than the joined list's by at least 1 for each merge
+  pub merges-lower : cost r (listOf rs (passChoice r rs)) + mergesIn (passOutcomes r rs) ≤ cost r (tidy rs)
   unfolding passOutcomes
   merges-lower =
       let c = ap (weigh (priceOf r)) (pass-recovered .listed) in
-      omega (arith, pass-of r rs apart .lower, cost-weigh r rs, cost-weigh r (listOf rs (passChoice r rs)), c)
+      omega (arith, pass-of r rs .lower, cost-weigh r (tidy rs), cost-weigh r (listOf rs (passChoice r rs)), c)
 
   pub pass-holds : PassHolds r rs
   unfolding passOutcomes
   pass-holds =
       record {
-        few = omega (arith, pass-of r rs apart .few, length-items rs);
+        few = omega (arith, pass-of r rs .few, length-items (tidy rs));
         choice = pass-recovered .choice;
         listed = pass-recovered .listed;
         lower = omega (arith, merges-lower);
+        joined-lower = cost-tidy r rs;
       }
 
   -- it stores no match alone
   pub pass-none-alone : storesAlone true rs (passChoice r rs) ≡ false
-  pass-none-alone = none-alone true rs (passItems r rs) tt sized (pass-of r rs apart .fuses)
+  pass-none-alone = pass-recovered .alone

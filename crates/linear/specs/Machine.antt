@@ -6,6 +6,8 @@ use mathlib.Core.Path.{_≡_}
 use mathlib.Core.Bool.{false}
 use mathlib.Core.List.{List, [], _∷_}
 use lib.ListN.{length, getD, set}
+use Rattle.format.specs.declared.Record.{Record}
+use Rattle.format.specs.declared.Record.the-variants.{New, Match}
 use Rattle.format.specs.Limits.{versionMost}
 use Rattle.format.specs.Record.{from, recordsOf}
 use Rattle.price.specs.declared.Rates.{Rates}
@@ -135,6 +137,11 @@ pub record Looked (rates : Rates) (m : Machine) (s : Step) : Type 0 where
   pub gap : s .next .left ≤ s .next .right
   pub within : s .next .right ≤ 4097
   pub rear : itemIn (leftBy s) 4097 ≡ mark
+
+-- the kind of a record in a cell: 0 new, 1 match
+abbrev pub kindOf : Record → ℕ
+kindOf (New s) = 0
+kindOf (Match s a) = 1
 
 -- a machine at the start of a pass: only the front mark comes before p
 pub record Loaded (m : Machine) (xs : List Item) : Type 0 where

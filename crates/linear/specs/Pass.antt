@@ -1,6 +1,6 @@
 -- Document 01, "Pass": the linear method as a machine. The carried list with its marks, one look, the run of looks, and what a caller gets:
 -- the outcomes of the looks, their number, the list at the end, and the choice that this list stands for. What a look comes to is `outcomeAt`, of
--- the crate rules.
+-- the crate rules. Document 02, S-4: "The pass joins such runs first and then looks"; so it starts from the tidy form of the list handed in.
 -- Assumes nothing.
 use Prim.Native.Nat.{ℕ, zero, suc, _+_, _-_, _*_, _≤_}
 use mathlib.Core.Path.{_≡_}
@@ -13,10 +13,11 @@ use Rattle.format.specs.declared.Record.the-variants.{New, Match}
 use Rattle.format.specs.Limits.{versionMost, listMost}
 use Rattle.format.specs.Record.{recordsOf}
 use Rattle.format.specs.Meaning.{sizeOf, whole}
-use Rattle.format.specs.WellFormed.{Sized, Apart}
+use Rattle.format.specs.WellFormed.{Sized}
 use Rattle.price.specs.declared.Rates.{Rates}
 use Rattle.price.specs.Price.{RatesFit}
 use Rattle.area.specs.Area.{over}
+use Rattle.join.specs.Join.{tidy}
 use Rattle.choice.specs.Choice.{Bit, keep, store, bitBytes}
 use Rattle.rules.specs.Rules.{Item, new, match, neither, mark, size, isNew, Tests, testsOf, outcomeAt}
 use Rattle.rules.specs.declared.Merge.the-variants.{Both, Before, After, Pair}
@@ -138,10 +139,10 @@ endItems t xs = rest (joined (pass t xs .end .left) [])
 
 -- ---- what a caller gets, at the rates r
 
--- how each look ended
+-- how each look ended: the runs that go on in the store are joined first, by the list as handed in
 unfoldable pub passOutcomes : Rates → List Record → List Outcome
 unfolding pass
-passOutcomes r rs = pass (testsOf r) (items rs) .outcomes
+passOutcomes r rs = pass (testsOf r) (items (tidy rs)) .outcomes
 
 -- the number of looks
 abbrev pub passLooks : Rates → List Record → ℕ
@@ -149,7 +150,7 @@ passLooks r rs = length (passOutcomes r rs)
 
 -- the pass's list, by kinds and sizes
 abbrev pub passItems : Rates → List Record → List Item
-passItems r rs = endItems (testsOf r) (items rs)
+passItems r rs = endItems (testsOf r) (items (tidy rs))
 
 -- an item without its first s bytes
 abbrev pub shrunk : Item → ℕ → Item
@@ -165,7 +166,7 @@ cut s i is = cond (ltb s (size i)) (shrunk i s ∷ is) is
 abbrev pub bitFor : Item → Bit
 bitFor i = cond (isNew i) store keep
 
--- the choice that items stand for: each record is as the item is that covers it
+-- the choice that items stand for, one bit for each record as handed in: each record is as the item is that covers it
 unfoldable pub choiceOf : List Record → List Item → List Bit
 choiceOf [] is = []
 choiceOf (r ∷ rs) [] = []
@@ -181,11 +182,11 @@ pub record Passable (rates : Rates) (list choice : List ℕ) : Type 0 where
   pub list-most : length list ≤ listMost
   pub room : length (recordsOf list) ≤ length choice
   pub sized : Sized (recordsOf list)
-  pub apart : Apart (recordsOf list)
   pub whole-most : whole (recordsOf list) ≤ versionMost
 
--- what the call gives: the number of looks, which is at most 2n - 1, and the choice area, which begins with the pass's choice
+-- what the call gives: the number of looks, which is at most 2n - 1 for n records after joining, and the choice area, which begins with the pass's
+-- choice
 pub record PassIn (rates : Rates) (list before after : List ℕ) (r : ℕ) : Type 0 where
   pub looks-are : r ≡ passLooks rates (recordsOf list)
-  pub few-looks : r ≤ 2 * length (recordsOf list) - 1
+  pub few-looks : r ≤ 2 * length (tidy (recordsOf list)) - 1
   pub area : after ≡ over (bitBytes (passChoice rates (recordsOf list))) before

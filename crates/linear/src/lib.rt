@@ -1,17 +1,19 @@
 // The pass: the linear method of source document 001, look by look, and the choice that its list stands for.
 //
-// In order: the carried list; what a look sees; the advance and the four merges; a look; the run; a list loaded; a choice read off; the pass.
+// In order: the carried list; what a look sees; the advance and the four merges; a look; the run; a list loaded, its runs joined; a choice read off;
+// the pass.
 // Not here: the outcome of a look (the crate rules), and what is refused. Callers hand in lists that were accepted.
 ghost use mathlib.Core.Path.{_≡_};
-ghost use Prim.Native.Nat.{_+_, _≤_, _<_};
+ghost use Prim.Native.Nat.{_+_, _*_, _≤_, _<_};
 ghost use lib.ListN.{length};
-ghost use Rattle.format.specs.Record.{recordsOf};
-ghost use Rattle.format.specs.Meaning.{sizeOf};
+ghost use Rattle.format.specs.Record.{rowAt, recordOf, recordsOf, recordsFrom};
+ghost use Rattle.format.specs.Meaning.{whole};
+ghost use Rattle.join.specs.Join.{joinsFirst, tidy};
 ghost use Rattle.choice.specs.Choice.{bitByte, bitBytes};
 ghost use Rattle.area.specs.Area.{over};
 ghost use Rattle.rules.specs.Rules.{mark, itemOf};
-ghost use Rattle.linear.specs.Pass.{items, itemFor, bitFor, choiceOf, Passable, PassIn};
-ghost use Rattle.linear.specs.Machine.{cellAt, itemAt, rightOf, endOf, Sighted, goneOn, fusedBack, fusedAhead, moveOf, Reaches, Ready, Looked, Loaded, Runnable, Ran, Covering};
+ghost use Rattle.linear.specs.Pass.{items, bitFor, choiceOf, Passable, PassIn};
+ghost use Rattle.linear.specs.Machine.{cellAt, itemAt, rightOf, endOf, Sighted, goneOn, fusedBack, fusedAhead, moveOf, Reaches, Ready, Looked, kindOf, Loaded, Runnable, Ran, Covering};
 use format::Record;
 use price::Rates;
 use rules::Cell;
@@ -194,7 +196,7 @@ fn run(machine: Machine, rates: Rates) -> Passed
 
 // The kind of a record: 0 new, 1 match.
 fn kind_of(record: Record) -> u8
-    ensures { λ r. ⌜ itemOf r (sizeOf «record») ≡ itemFor «record» ⌝ }
+    ensures { λ r. ⌜ r ≡ kindOf «record» ⌝ }
 {
     match record {
         Record::New(_) => 0,
@@ -202,21 +204,41 @@ fn kind_of(record: Record) -> u8
     }
 }
 
-// A list before the pass: the front mark at place 0, the records in the last places before the rear mark, p at the first of them.
-fn load(list: &[u8]) -> Machine
-    requires { ⌜ length (now list) ≤ 49152 ⌝ }
-    ensures { λ r. ⌜ Loaded r (items (recordsOf (now (list .entry)))) ⌝ }
+// Whether record i of n joins the next one.
+fn joins_next(list: &[u8], n: usize, i: usize) -> bool
+    requires { ⌜ (i < n) × (12 * n ≤ length (now list)) ⌝ }
+    ensures { λ r. ⌜ r ≡ joinsFirst (recordOf (rowAt (now (list .entry)) i)) (recordsFrom (now (list .entry)) n (i + 1)) ⌝ }
 {
+    if i + 1 == n {
+        return false;
+    }
+    join::joins(format::record_at(list, i), format::record_at(list, i + 1))
+}
+
+// A list before the pass, each run of records that join as one: the front mark at place 0, the records in the last places before the rear mark, p at
+// the first of them.
+fn load(list: &[u8]) -> Machine
+    requires { ⌜ (length (now list) ≤ 49152) × (whole (recordsOf (now list)) ≤ 16777216) ⌝ }
+    ensures { λ r. ⌜ Loaded r (items (tidy (recordsOf (now (list .entry))))) ⌝ }
+{
+    let n = list.len() / 12;
     let mut kinds = [2u8; 4098];
     let mut sizes = [0u32; 4098];
-    let mut i = list.len() / 12;
+    let mut i = n;
     let mut right: usize = 4097;
     while 0 < i {
         i -= 1;
-        right -= 1;
         let record = format::record_at(list, i);
-        kinds[right] = kind_of(record);
-        sizes[right] = format::size_of(record);
+        let kind = kind_of(record);
+        let size = format::size_of(record);
+        if joins_next(list, n, i) {
+            kinds[right] = kind;
+            sizes[right] = size + sizes[right];
+        } else {
+            right -= 1;
+            kinds[right] = kind;
+            sizes[right] = size;
+        }
     }
     Machine {
         kinds,

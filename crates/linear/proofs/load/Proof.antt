@@ -1,19 +1,18 @@
--- `linear::load` meets its contract. The invariant: `Laid` says that the records from i on stand from `right` on. The measure is i.
+-- `linear::load` meets its contract. The invariant: `Laid` says that the tidy form of the records from i on stands from `right` on. The measure is i.
 -- Assumes nothing.
-use Prim.Native.Nat.{ℕ, _-_}
+use Prim.Native.Nat.{ℕ, _-_, _/_}
 use native.Mathlib.Omega.{arith}
-use mathlib.Core.Path.{_≡_, refl, subst}
-use Rattle.format.specs.Record.{rowAt, recordOf}
-use Rattle.linear.proofs.Loading.{Laid, laid-start, laid-next, loaded-of-laid}
+use mathlib.Core.Path.{_≡_, refl, sym, subst}
+use Rattle.linear.proofs.Loading.{Laid, laid-start, laid-apart, laid-joined, joined-inside, joined-most, loaded-of-laid}
 use borrow.Author.Needs.{needs}
 use Rattle.linear.proofs.load.Statement.{statement}
 use Rattle.linear.proofs.load.Tie as tie
 
 abbrev Inv-loop : tie.InvT-loop
-Inv-loop list kinds₀ sizes₀ i₀ right₀ kinds sizes i right = Laid list kinds sizes i right
+Inv-loop list n kinds₀ sizes₀ i₀ right₀ kinds sizes i right = Laid list kinds sizes i right
 
 abbrev μ-loop : tie.MeasureT-loop
-μ-loop list kinds₀ sizes₀ i₀ right₀ kinds sizes i right = i
+μ-loop list n kinds₀ sizes₀ i₀ right₀ kinds sizes i right = i
 
 loop-holds : tie.Need-loop-holds Inv-loop μ-loop
 loop-holds c = laid-start (c .before .args .list .now) (omega arith)
@@ -21,36 +20,83 @@ loop-holds c = laid-start (c .before .args .list .now) (omega arith)
 sub-i : tie.Need-sub-i Inv-loop μ-loop
 sub-i c = search needs
 
-sub-right : tie.Need-sub-right Inv-loop μ-loop
-sub-right c = omega (arith, c .before .loop .inv .placed, c .before .loop .inv .few)
-
 record-at-requires : tie.Need-record-at-requires Inv-loop μ-loop
 record-at-requires c κs = omega (arith, c .before .loop .inv .in-n)
 
 kind-of-requires : tie.Need-kind-of-requires Inv-loop μ-loop
 kind-of-requires c κs = search needs
 
-array-write-kinds : tie.Need-array-write-kinds Inv-loop μ-loop
-array-write-kinds c = omega (arith, c .before .before .before .loop .inv .placed)
-
 size-of-requires : tie.Need-size-of-requires Inv-loop μ-loop
 size-of-requires c κs = search needs
 
+joins-next-requires : tie.Need-joins-next-requires Inv-loop μ-loop
+joins-next-requires c κs = (omega (arith, c .before .before .before .before .loop .inv .in-n), omega arith)
+
+array-write-kinds : tie.Need-array-write-kinds Inv-loop μ-loop
+array-write-kinds c =
+    let g = c .before .before .before .before .before .before .before .before .args in
+    let l = c .before .before .before .before .before .before .loop in
+    omega (arith, joined-inside (g .list .now) (l .inv) (omega arith) (c .before .before .before .before .record-at .ensures) (c .before .before .before .kind-of .ensures) (c .before .before .size-of .ensures) (c .before .joins-next .ensures) (c .if1 .taken))
+
 mul-sizes : tie.Need-mul-sizes Inv-loop μ-loop
-mul-sizes c = omega (arith, c .before .before .before .before .loop .inv .placed)
+mul-sizes c =
+    let g = c .before .before .before .before .before .before .before .before .args in
+    let l = c .before .before .before .before .before .before .loop in
+    omega (arith, joined-inside (g .list .now) (l .inv) (omega arith) (c .before .before .before .before .record-at .ensures) (c .before .before .before .kind-of .ensures) (c .before .before .size-of .ensures) (c .before .joins-next .ensures) (c .if1 .taken))
+
+array-read-sizes : tie.Need-array-read-sizes Inv-loop μ-loop
+array-read-sizes c =
+    let g = c .before .before .before .before .before .before .before .before .args in
+    let l = c .before .before .before .before .before .before .loop in
+    omega (arith, joined-inside (g .list .now) (l .inv) (omega arith) (c .before .before .before .before .record-at .ensures) (c .before .before .before .kind-of .ensures) (c .before .before .size-of .ensures) (c .before .joins-next .ensures) (c .if1 .taken))
+
+add-sizes : tie.Need-add-sizes Inv-loop μ-loop
+add-sizes c =
+    let g = c .before .before .before .before .before .before .before .before .args in
+    let l = c .before .before .before .before .before .before .loop in
+    omega (arith, joined-most (g .list .now) (l .inv) (omega arith) (c .before .before .before .before .record-at .ensures) (c .before .before .before .kind-of .ensures) (c .before .before .size-of .ensures) (c .before .joins-next .ensures) (c .if1 .taken) (c .before .before .before .before .before .before .before .before .pre .1))
+
+mul-sizes-2 : tie.Need-mul-sizes-2 Inv-loop μ-loop
+mul-sizes-2 c =
+    let g = c .before .before .before .before .before .before .before .before .args in
+    let l = c .before .before .before .before .before .before .loop in
+    omega (arith, joined-inside (g .list .now) (l .inv) (omega arith) (c .before .before .before .before .record-at .ensures) (c .before .before .before .kind-of .ensures) (c .before .before .size-of .ensures) (c .before .joins-next .ensures) (c .if1 .taken))
 
 array-write-sizes : tie.Need-array-write-sizes Inv-loop μ-loop
-array-write-sizes c = omega (arith, c .before .before .before .before .loop .inv .placed)
+array-write-sizes c =
+    let g = c .before .before .before .before .before .before .before .before .args in
+    let l = c .before .before .before .before .before .before .loop in
+    omega (arith, joined-inside (g .list .now) (l .inv) (omega arith) (c .before .before .before .before .record-at .ensures) (c .before .before .before .kind-of .ensures) (c .before .before .size-of .ensures) (c .before .joins-next .ensures) (c .if1 .taken))
 
 loop-less : tie.Need-loop-less Inv-loop μ-loop
 loop-less c = search needs
 
 loop-again : tie.Need-loop-again Inv-loop μ-loop
 loop-again c =
-    let g = c .before .before .before .before .before .before .args in
-    let l = c .before .before .before .before .loop in
-    let is : c .before .before .record-at .result ≡ recordOf (rowAt (g .list .now) (l .i - 1)) = c .before .before .record-at .ensures in
-    laid-next (g .list .now) (l .kinds) (l .sizes) (l .i) (l .right) (l .inv) (omega arith) (c .before .before .record-at .result) is (c .before .kind-of .result) (c .size-of .result) (c .before .kind-of .ensures) (c .size-of .ensures)
+    let g = c .before .before .before .before .before .before .before .before .args in
+    let l = c .before .before .before .before .before .before .loop in
+    laid-joined (g .list .now) (l .inv) (omega arith) (c .before .before .before .before .record-at .ensures) (c .before .before .before .kind-of .ensures) (c .before .before .size-of .ensures) (c .before .joins-next .ensures) (c .if1 .taken)
+
+sub-right : tie.Need-sub-right Inv-loop μ-loop
+sub-right c = omega (arith, c .before .before .before .before .before .before .loop .inv .placed, c .before .before .before .before .before .before .loop .inv .few)
+
+array-write-kinds-2 : tie.Need-array-write-kinds-2 Inv-loop μ-loop
+array-write-kinds-2 c = omega (arith, c .before .before .before .before .before .before .loop .inv .within)
+
+mul-sizes-3 : tie.Need-mul-sizes-3 Inv-loop μ-loop
+mul-sizes-3 c = omega (arith, c .before .before .before .before .before .before .loop .inv .within)
+
+array-write-sizes-2 : tie.Need-array-write-sizes-2 Inv-loop μ-loop
+array-write-sizes-2 c = omega (arith, c .before .before .before .before .before .before .loop .inv .within)
+
+loop-less-2 : tie.Need-loop-less-2 Inv-loop μ-loop
+loop-less-2 c = search needs
+
+loop-again-2 : tie.Need-loop-again-2 Inv-loop μ-loop
+loop-again-2 c =
+    let g = c .before .before .before .before .before .before .before .before .args in
+    let l = c .before .before .before .before .before .before .loop in
+    laid-apart (g .list .now) (l .inv) (omega arith) (c .before .before .before .before .record-at .ensures) (c .before .before .before .kind-of .ensures) (c .before .before .size-of .ensures) (c .before .joins-next .ensures) (c .if1 .left)
 
 returns : tie.Need-returns Inv-loop μ-loop
 returns c =
@@ -67,13 +113,22 @@ load-spec =
     μ-loop
     loop-holds
     sub-i
-    sub-right
     record-at-requires
     kind-of-requires
-    array-write-kinds
     size-of-requires
+    joins-next-requires
+    array-write-kinds
     mul-sizes
+    array-read-sizes
+    add-sizes
+    mul-sizes-2
     array-write-sizes
     loop-less
     loop-again
+    sub-right
+    array-write-kinds-2
+    mul-sizes-3
+    array-write-sizes-2
+    loop-less-2
+    loop-again-2
     returns)

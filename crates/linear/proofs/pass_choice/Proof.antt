@@ -15,7 +15,7 @@ use Rattle.linear.proofs.pass_choice.Statement.{statement}
 use Rattle.linear.proofs.pass_choice.Tie as tie
 
 load-requires : tie.Need-load-requires
-load-requires c κs = c .before .before .pre .list-most
+load-requires c κs = (c .before .before .pre .list-most, c .before .before .pre .whole-most)
 
 run-requires : tie.Need-run-requires
 run-requires c κs = runnable-of-loaded (c .before .before .before .args .rates) (recordsOf (c .before .before .before .args .list .now)) (c .load .result) (c .before .before .before .pre .rates-fit) (c .load .ensures) (c .before .before .before .pre .whole-most)
@@ -26,7 +26,7 @@ read-off-requires c κs =
     let rs = recordsOf (g .list .now) in
     let same : endOf (c .before .run .result .list) ≡ passItems (g .rates) rs =
     end-of-ran (g .rates) rs (c .before .before .load .result) (c .before .run .result) (c .before .before .load .ensures) (c .before .run .ensures) in
-    let choice = pass-holds (g .rates) rs (c .before .before .before .before .before .pre .sized) (c .before .before .before .before .before .pre .apart) .choice in
+    let choice = pass-holds (g .rates) rs (c .before .before .before .before .before .pre .sized) .choice in
     record { within = c .before .run .ensures .within; list-most = c .before .before .before .before .before .pre .list-most; room = c .before .before .before .before .before .pre .room; covered = rw same choice }
 
 same-length : tie.Need-same-length
