@@ -9,6 +9,7 @@ use Rattle.format.specs.Record.{recordsOf}
 use Rattle.price.specs.declared.Price.{Price}
 use Rattle.price.specs.Price.{ratesOf}
 use Rattle.area.specs.Area.{Areas}
+use Rattle.join.specs.Join.{tidy}
 use Rattle.choice.specs.Choice.{Bit}
 use Rattle.admit.specs.Admit.{partitionRuling}
 use Rattle.writer.specs.Decide.{Decided}
@@ -21,7 +22,8 @@ passChoiceOf price list = passChoice (ratesOf price) (recordsOf list)
 abbrev pub passLooksOf : Price → List ℕ → ℕ
 passLooksOf price list = passLooks (ratesOf price) (recordsOf list)
 
--- that choice, its list and its stored block; the answer carries its cost, entries and stored bytes, and the looks, which are few
+-- that choice, its list and its stored block; the answer carries its cost, entries and stored bytes, and the looks, which are few for the records after
+-- joining
 pub record PassMade (price : Price) (list v st : List ℕ) (before : Areas) (r : Answer) (after : Areas) : Type 0 where
   pub decided : Decided (partitionRuling price list v st before) (ratesOf price) list v (passChoiceOf price list) (passLooksOf price list) before r after
-  pub few-looks : figuresIn r .looks ≤ 2 * length (recordsOf list) - 1
+  pub few-looks : figuresIn r .looks ≤ 2 * length (tidy (recordsOf list)) - 1

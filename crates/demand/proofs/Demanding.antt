@@ -101,7 +101,7 @@ module _ (price : Price) (list v st : List ℕ) (x : Calls) (fine : findings pri
   pass-answer = decided-answer (made .passed .decided) pass-fine
 
   holds : PassHolds (ratesOf price) (recordsOf list)
-  holds = pass-holds (ratesOf price) (recordsOf list) (sound .well-formed .sized) (sound .well-formed .apart)
+  holds = pass-holds (ratesOf price) (recordsOf list) (sound .well-formed .sized)
 
   demand-of-calls : Demand price list v x
   demand-of-calls =
@@ -121,7 +121,8 @@ module _ (price : Price) (list v st : List ℕ) (x : Calls) (fine : findings pri
         passed-figures = ap figuresIn pass-answer;
         passed-written = decided-areas (made .passed .decided) pass-fine;
         no-less = rw (first-answer, pass-answer) (least-is-least (ratesOf price) (recordsOf list) .cheapest (passChoiceOf price list) (holds .choice));
-        no-more = rw pass-answer (holds .lower);
+        no-more = rw pass-answer (omega (arith, holds .lower, holds .joined-lower));
+        no-more-joined = rw pass-answer (holds .lower);
         few-looks = made .passed .few-looks;
       }
 

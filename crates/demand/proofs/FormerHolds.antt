@@ -13,6 +13,7 @@ use Rattle.price.specs.Price.{ratesOf, cost}
 use Rattle.price.proofs.Bounds.{entries}
 use Rattle.price.proofs.Scaling.{ltb-same}
 use Rattle.measure.specs.Measure.{measureRuling}
+use Rattle.join.specs.Join.{tidy}
 use Rattle.choice.specs.Choice.{listOf, costOf, least}
 use Rattle.choice.proofs.Path.{choices-cong}
 use Rattle.rules.specs.Rules.{Tests, testsOf}
@@ -45,10 +46,10 @@ module _ (e f : ℕ) where
 
     outcomes-former : passOutcomes (ratesOf (samePrice e f)) rs ≡ formerOutcomes e f rs
     unfolding passOutcomes
-    outcomes-former = ap (λ (t : Tests). pass t (items rs) .outcomes) tests-former
+    outcomes-former = ap (λ (t : Tests). pass t (items (tidy rs)) .outcomes) tests-former
 
     pass-former : passChoice (ratesOf (samePrice e f)) rs ≡ formerPass e f rs
-    pass-former = ap (λ (t : Tests). choiceOf rs (endItems t (items rs))) tests-former
+    pass-former = ap (λ (t : Tests). choiceOf rs (endItems t (items (tidy rs)))) tests-former
 
 pub former-answers : FormerAnswers
 former-answers e f list v st x =

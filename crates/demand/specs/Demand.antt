@@ -14,6 +14,7 @@ use Rattle.format.specs.Record.{recordsOf}
 use Rattle.price.specs.declared.Price.{Price}
 use Rattle.price.specs.Price.{ratesOf, cost}
 use Rattle.area.specs.Area.{over, Areas}
+use Rattle.join.specs.Join.{tidy}
 use Rattle.choice.specs.Choice.{Bit, listOf, IsLeast, keepAll}
 use Rattle.admit.specs.Admit.{findings, LongEnough}
 use Rattle.writer.specs.Decide.{figures, laid}
@@ -87,11 +88,13 @@ pub record Demand (price : Price) (list v : List ℕ) (x : Calls) : Type 0 where
   pub passed-accepted : Accepts (x .passed .answer)
   pub passed-figures : figuresIn (x .passed .answer) ≡ figures (ratesOf price) (listOf (recordsOf list) (passChoiceOf price list)) (passLooksOf price list)
   pub passed-written : x .passed .after ≡ laid (passChoiceOf price list) (listOf (recordsOf list) (passChoiceOf price list)) v (x .passed .before)
-  -- "costs no less than partition's list and no more than the list first handed in"
+  -- "costs no less than partition's list and no more than the list first handed in", as measure prices that one, record by record; nor more than it does
+  -- with its runs joined, which is no more (document 02, S-4)
   pub no-less : figuresIn (x .first .answer) .cost ≤ figuresIn (x .passed .answer) .cost
   pub no-more : figuresIn (x .passed .answer) .cost ≤ cost (ratesOf price) (recordsOf list)
-  -- "It counts at most 2n - 1 looks for n records, none for n = 0"
-  pub few-looks : figuresIn (x .passed .answer) .looks ≤ 2 * length (recordsOf list) - 1
+  pub no-more-joined : figuresIn (x .passed .answer) .cost ≤ cost (ratesOf price) (tidy (recordsOf list))
+  -- "It counts at most 2n - 1 looks for n records, none for n = 0"; n "counts the records after joining" (S-4)
+  pub few-looks : figuresIn (x .passed .answer) .looks ≤ 2 * length (tidy (recordsOf list)) - 1
 
 -- demand 3: where nothing is found in price, list, version and store, it holds of any four calls in areas long enough for them
 abbrev pub DemandThree : Type 0

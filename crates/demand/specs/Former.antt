@@ -16,6 +16,7 @@ use Rattle.format.specs.Meaning.{stored}
 use Rattle.price.specs.declared.Price.{Price}
 use Rattle.price.specs.Price.{priceFits, ratesOf}
 use Rattle.measure.specs.Measure.{measureRuling, measured}
+use Rattle.join.specs.Join.{tidy}
 use Rattle.choice.specs.Choice.{Bit, choices, listOf, firstOf}
 use Rattle.admit.specs.Admit.{partitionRuling}
 use Rattle.call_partition.specs.Partition.{Partitioned}
@@ -46,10 +47,10 @@ formerTests e f = record { both = λ s. ltb (256 * s) (2 * (f * e)); side = λ s
 
 -- the pass with these: how each look ended, and the choice
 abbrev pub formerOutcomes : ℕ → ℕ → List Record → List Outcome
-formerOutcomes e f rs = pass (formerTests e f) (items rs) .outcomes
+formerOutcomes e f rs = pass (formerTests e f) (items (tidy rs)) .outcomes
 
 abbrev pub formerPass : ℕ → ℕ → List Record → List Bit
-formerPass e f rs = choiceOf rs (endItems (formerTests e f) (items rs))
+formerPass e f rs = choiceOf rs (endItems (formerTests e f) (items (tidy rs)))
 
 -- ---- at EN = EM
 

@@ -1,6 +1,7 @@
 -- The worked examples as one table: the price and the list; the least choice and its cost; the pass's cost and looks. Document 01's (its sheets A to
 -- J), at EN = EM = 10 and F 256; then one list at F 256, 384 and 512, where the factor between two whole ones has a least choice that neither of them
--- has; then lists at F 256 where a new entry is cheaper or dearer than a match.
+-- has; then lists at F 256 where a new entry is cheaper or dearer than a match; then lists where a match goes on in the store (document 02, S-4). And
+-- the lists that some choices make of such lists.
 -- Assumes nothing.
 use Prim.Native.Nat.{ℕ, _*_}
 use mathlib.Core.Path.{_≡_}
@@ -10,7 +11,7 @@ use Rattle.format.specs.declared.Record.the-variants.{New, Match}
 use Rattle.price.specs.declared.Price.{Price}
 use Rattle.price.specs.declared.Rates.{Rates}
 use Rattle.price.specs.Price.{ratesOf}
-use Rattle.choice.specs.Choice.{Bit, keep, store, costOf, least}
+use Rattle.choice.specs.Choice.{Bit, keep, store, listOf, costOf, least}
 use Rattle.linear.specs.Pass.{passChoice, passLooks}
 
 pub record Worked : Type 0 where
@@ -40,7 +41,23 @@ between = New 1 ∷ Match 12 0 ∷ Match 60 50 ∷ Match 17 200 ∷ New 1 ∷ []
 abbrev pub lone : List Record
 lone = Match 20 0 ∷ Match 4 50 ∷ Match 20 90 ∷ []
 
--- no match goes on in the store where the one before it ended
+-- N5 M14 M14 N5, the second match at an address
+abbrev pub parts : ℕ → List Record
+parts a = New 5 ∷ Match 14 0 ∷ Match 14 a ∷ New 5 ∷ []
+
+-- M20 M4 M20, each match going on where the one before it ended
+abbrev pub running : List Record
+running = Match 20 0 ∷ Match 4 20 ∷ Match 20 24 ∷ []
+
+-- M20 N5 M20, the second match going on where the first ended, but for a new record between them
+abbrev pub cutRun : List Record
+cutRun = Match 20 0 ∷ New 5 ∷ Match 20 20 ∷ []
+
+-- M8 M2 N1 M1, the second match going on where the first ended
+abbrev pub tied : List Record
+tied = Match 8 0 ∷ Match 2 8 ∷ New 1 ∷ Match 1 50 ∷ []
+
+-- no match of the sheets goes on in the store where the one before it ended
 abbrev pub table : List Worked
 table =
     inBytes [] [] 0 0 0
@@ -60,6 +77,15 @@ table =
     ∷ worked (price 10 1 256) (New 5 ∷ Match 19 0 ∷ New 5 ∷ []) (store ∷ keep ∷ store ∷ []) 7936 7936 3
     ∷ worked (price 1 10 256) (Match 6 0 ∷ Match 6 50 ∷ Match 6 90 ∷ []) (store ∷ store ∷ store ∷ []) 4864 4864 4
     ∷ worked (price 12 10 256) (Match 4 0 ∷ Match 4 50 ∷ Match 4 90 ∷ []) (store ∷ store ∷ store ∷ []) 6144 7680 3
+    -- a run is kept whose parts, where they do not go on, are stored
+    ∷ inBytes (parts 14) (store ∷ keep ∷ keep ∷ store ∷ []) 40 40 3
+    ∷ inBytes (parts 50) (store ∷ store ∷ store ∷ store ∷ []) 48 50 4
+    -- to store the middle of a run would cost two entries more, where it is worth it in `lone`
+    ∷ worked (price 1 10 256) running (keep ∷ keep ∷ keep ∷ []) 2560 2560 1
+    -- a new record cuts a run
+    ∷ inBytes cutRun (keep ∷ store ∷ keep ∷ []) 35 35 3
+    -- to store all would cost as much: the tie goes to 0 at the first record as handed in, and each record has its byte
+    ∷ inBytes tied (keep ∷ keep ∷ store ∷ store ∷ []) 22 22 3
     ∷ []
 
 -- the rates of an example
@@ -73,6 +99,30 @@ solved s =
     let c = least (rates s) l in
     worked (s .price) l c (costOf (rates s) l c) (costOf (rates s) l (passChoice (rates s) l)) (passLooks (rates s) l)
 
--- the definitions have each as the table has it
+-- a choice of a list, and the list that it makes
+pub record Making : Type 0 where
+  pub list : List Record
+  pub choice : List Bit
+  pub made : List Record
+
+abbrev pub making : List Record → List Bit → List Record → Making
+making l c m = record { list = l; choice = c; made = m }
+
+abbrev pub makings : List Making
+makings =
+    making (parts 14) (store ∷ keep ∷ keep ∷ store ∷ []) (New 5 ∷ Match 28 0 ∷ New 5 ∷ [])
+    ∷ making (parts 50) (store ∷ keep ∷ keep ∷ store ∷ []) (parts 50)
+    ∷ making running (keep ∷ keep ∷ keep ∷ []) (Match 44 0 ∷ [])
+    ∷ making running (keep ∷ store ∷ keep ∷ []) (Match 20 0 ∷ New 4 ∷ Match 20 24 ∷ [])
+    ∷ making running (store ∷ store ∷ keep ∷ []) (New 24 ∷ Match 20 24 ∷ [])
+    ∷ making cutRun (keep ∷ store ∷ keep ∷ []) cutRun
+    ∷ making tied (keep ∷ keep ∷ store ∷ store ∷ []) (Match 10 0 ∷ New 2 ∷ [])
+    ∷ []
+
+-- as the definitions have it
+abbrev pub remade : Making → Making
+remade m = making (m .list) (m .choice) (listOf (m .list) (m .choice))
+
+-- the definitions have each as the tables have it
 abbrev pub TableHolds : Type 0
-TableHolds = map solved table ≡ table
+TableHolds = (map solved table ≡ table) × (map remade makings ≡ makings)

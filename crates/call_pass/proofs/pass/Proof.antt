@@ -48,7 +48,6 @@ pass-choice-requires c κs =
       list-most = s .counted .list-most;
       room = omega (arith, s .in-choice, s .counted .whole-records);
       sized = s .well-formed .sized;
-      apart = s .well-formed .apart;
       whole-most = omega (arith, s .whole-is, s .version-most);
     }
 
@@ -71,7 +70,7 @@ returns-2 : tie.Need-returns-2
 returns-2 c =
     let g = c .before .before .before .before .before .before .before .before .before .before .before .before .before .before .before .before .before .before .before .before .before .before .before .args in
     let x = admitted-of-through (g .price) (g .list .now) (g .version .now) (g .store .now) (length (g .choice .now)) (length (g .list-area .now)) (length (g .block-area .now)) (c .before .before .before .before .before .before .before .before .before .before .before .before .before .before .w .given .0 .0) (sym (c .before .before .before .before .before .before .before .before .before .before .before .before .before .before .before .before .admit .ensures) ∙ c .before .before .before .before .before .before .before .before .before .before .before .before .before .before .w .given .1) in
-    let holds = pass-holds (ratesOf (g .price)) (recordsOf (g .list .now)) (x .sound .well-formed .sized) (x .sound .well-formed .apart) in
+    let holds = pass-holds (ratesOf (g .price)) (recordsOf (g .list .now)) (x .sound .well-formed .sized) in
     let chosen = rw (c .before .before .before .before .before .before .before .before .before .before .before .before .rates-of .ensures) at (c .before .before .before .before .before .before .before .before .before .before .pass-choice .ensures) in
     let made = rw (c .before .before .before .before .before .before .before .before .before .before .before .before .rates-of .ensures, chosen .looks-are) at (c .before .before .before .before .finish .ensures) in
     record { decided = decided (x .fine) (holds .choice) (chosen .area) made; few-looks = rw (made .answered) (holds .few) }
