@@ -60,8 +60,14 @@ fn put_record(area: &mut [u8], out: usize, record: Record)
     area::put(area, out, &b);
 }
 
-// Whether two neighbours join: new records do, and so do matches where the second begins where the first ends in the store. (Sums of 64 bits, as
-// nothing says here that a match lies in the store.)
+// Where a match ends in the store; in 64 bits, as nothing says here that it lies in the store.
+fn end_of(size: u32, address: u32) -> u64
+    ensures { λ r. ⌜ r ≡ address + size ⌝ }
+{
+    (address as u64) + (size as u64)
+}
+
+// Whether two neighbours join: new records do, and so do matches where the second begins where the first ends.
 pub fn joins(first: Record, second: Record) -> bool
     ensures { λ r. ⌜ r ≡ joins first second ⌝ }
 {
@@ -72,7 +78,7 @@ pub fn joins(first: Record, second: Record) -> bool
         },
         Record::Match(size, address) => match second {
             Record::New(_) => false,
-            Record::Match(_, next) => (address as u64) + (size as u64) == (next as u64),
+            Record::Match(_, next) => end_of(size, address) == (next as u64),
         },
     }
 }

@@ -129,7 +129,13 @@ fn backwards(rates: Rates, list: &[u8], n: usize, choice: &mut [u8]) -> Cost
     let mut stored = Cost(0);
     while 0 < i {
         i -= 1;
-        let t = weigh(rates, before_at(list, i), format::record_at(list, i), kept, stored);
+        let t = weigh(
+            rates,
+            before_at(list, i),
+            format::record_at(list, i),
+            kept,
+            stored,
+        );
         choice[i] = t.hint;
         kept = t.kept;
         stored = t.stored;

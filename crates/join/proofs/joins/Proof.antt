@@ -21,17 +21,11 @@ enum-told-4 c = search needs
 enum-known-second : tie.Need-enum-known-second
 enum-known-second c = search needs
 
+end-of-requires : tie.Need-end-of-requires
+end-of-requires c κs = search needs
+
 cast-result : tie.Need-cast-result
 cast-result c = search needs
-
-cast-result-2 : tie.Need-cast-result-2
-cast-result-2 c = search needs
-
-add-result : tie.Need-add-result
-add-result c = search needs
-
-cast-result-3 : tie.Need-cast-result-3
-cast-result-3 c = search needs
 
 returns : tie.Need-returns
 returns c = search needs
@@ -43,7 +37,7 @@ returns-3 : tie.Need-returns-3
 returns-3 c = search needs
 
 returns-4 : tie.Need-returns-4
-returns-4 c = rw (c .before .before .before .before .first .given .1, c .before .second .given .1)
+returns-4 c = rw (c .before .before .before .before .before .first .given .1, c .before .before .second .given .1, c .end-of .ensures)
 
 pub joins-spec : {M : Type 1} → statement M
 joins-spec =
@@ -55,10 +49,8 @@ joins-spec =
     enum-known-first
     enum-told-4
     enum-known-second
+    end-of-requires
     cast-result
-    cast-result-2
-    add-result
-    cast-result-3
     returns
     returns-2
     returns-3
