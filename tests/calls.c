@@ -11,7 +11,7 @@
 
 #include "controller.h"
 
-#define CASES 300
+#define CASES 333
 #define FILL 0xA5
 #define AREA 256
 
@@ -484,8 +484,6 @@ static const struct accepted sheets[] = {
     { "sheet D in areas longer than it writes", IN(3, 36, 30), "N5 M20@0 N5", "01234ABCDEFGHIJKLMNOPQRST56789", "101", "N5 M20@0 N5", "0123456789",
       { .cost = 256 * 40, .entries = 3, .stored = 10, .looks = 3 } },
     { "sheet A in no areas", IN(0, 0, 0), "", "", "", "", "", { 0 } },
-    { "matches that go on in the store", AT(10, 256), "M10@0 M10@10", "ABCDEFGHIJKLMNOPQRST", "00", "M10@0 M10@10", "",
-      { .cost = 256 * 20, .entries = 2, .looks = 2 } },
     { "a match to the end of the store", AT(10, 256), "M5@35", "jklmn", "0", "M5@35", "", { .cost = 256 * 10, .entries = 1, .looks = 1 } },
     /* At 8 disk bytes for an entry the first match joins; the last would add as much as its entry costs, and stays. */
     { "a tie", AT(8, 256), "M4@8 N8 M8@0", "IJKL01234567ABCDEFGH", "110", "N12 M8@0", "IJKL01234567", { .cost = 256 * 28, .entries = 2, .stored = 12, .looks = 4 } },
@@ -524,8 +522,38 @@ static const struct accepted two_prices[] = {
     { "a lone match at EN 6, EM 10, a tie", PRICED(6, 10, 256), LONE, VERSION_LONE, "000", LONE, "", { .cost = 256 * 30, .entries = 3, .looks = 3 } },
 };
 
+/* Matches that go on in the store where the one before them ended, at 10 disk bytes for an entry but where a price is said, and where both take
+ * the same choice, which has a byte for each record handed in. Kept, a run costs 10: three matches of 4 are worth it then, and so are two of 14
+ * between new records, 30 + 10 against 10 + 38 stored. Two of 9 there are not, 30 + 10 against 10 + 28. At EN 1 to store the middle match would cost
+ * 10 + 1 + 10 and its 4 bytes, where the run costs 10. In the tie 10 + 10 + 2 is 10 + 12. Runs of 4 bytes and 4 cost 20 kept and 10 + 8 stored; the
+ * pass merges them, goes back to the front mark, and on over the new record. */
+static const struct accepted runs[] = {
+    { "two matches that go on", AT(10, 256), "M10@0 M10@10", "ABCDEFGHIJKLMNOPQRST", "00", "M20@0", "", { .cost = 256 * 10, .entries = 1, .looks = 1 } },
+    { "three matches that go on", AT(10, 256), "M4@8 M4@12 M4@16", "IJKLMNOPQRST", "000", "M12@8", "", { .cost = 256 * 10, .entries = 1, .looks = 1 } },
+    { "a run to the end of the store", AT(10, 256), "M5@30 M5@35", "efghijklmn", "00", "M10@30", "", { .cost = 256 * 10, .entries = 1, .looks = 1 } },
+    { "a run kept, its parts worth storing", AT(10, 256), "N5 M14@0 M14@14 N5", "01234ABCDEFGHIJKLMNOPQRSTUVWXYZab56789", "1001", "N5 M28@0 N5",
+      "0123456789", { .cost = 256 * 40, .entries = 3, .stored = 10, .looks = 3 } },
+    { "a run stored", AT(10, 256), "N5 M9@0 M9@9 N5", "01234ABCDEFGHIJKLMNOPQR56789", "1111", "N28", "01234ABCDEFGHIJKLMNOPQR56789",
+      { .cost = 256 * 38, .entries = 1, .stored = 28, .looks = 2 } },
+    { "the middle of a run at EN 1, EM 10", PRICED(1, 10, 256), "M20@0 M4@20 M16@24", STORE, "000", "M40@0", "",
+      { .cost = 256 * 10, .entries = 1, .looks = 1 } },
+    { "a run cut by a new record", AT(10, 256), "M20@0 N5 M20@20", "ABCDEFGHIJKLMNOPQRST01234UVWXYZabcdefghijklmn", "010", "M20@0 N5 M20@20", "01234",
+      { .cost = 256 * 35, .entries = 3, .stored = 5, .looks = 3 } },
+    { "a tie, by the records handed in", AT(10, 256), "M8@0 M2@8 N1 M1@20", "ABCDEFGHIJ0U", "0011", "M10@0 N2", "0U",
+      { .cost = 256 * 22, .entries = 2, .stored = 2, .looks = 3 } },
+    { "a run and a match that does not go on", AT(10, 256), "M4@0 M4@4 M4@20", "ABCDEFGHUVWX", "000", "M8@0 M4@20", "",
+      { .cost = 256 * 20, .entries = 2, .looks = 2 } },
+    { "a run merged with a match that does not go on", AT(10, 256), "M2@0 M2@2 M4@20", "ABCDUVWX", "111", "N8", "ABCDUVWX",
+      { .cost = 256 * 18, .entries = 1, .stored = 8, .looks = 3 } },
+    { "a match again, which does not go on", AT(10, 256), "M10@0 M10@0", "ABCDEFGHIJABCDEFGHIJ", "00", "M10@0 M10@0", "",
+      { .cost = 256 * 20, .entries = 2, .looks = 2 } },
+    { "a match whose bytes go on, from elsewhere", AT(10, 256), "M12@0 M12@13", "ABCDEFGHIJKLNOPQRSTUVWXY", "00", "M12@0 M12@13", "",
+      { .cost = 256 * 20, .entries = 2, .looks = 2 } },
+};
+
 /* Where the pass takes another choice than partition. Of sheet I's matches, and at EN 12 of sheet H's, no two are worth merging, but all three
- * are; a lone match is worth storing where 1 + 4 is below 10, and only partition does it. */
+ * are; a lone match is worth storing where 1 + 4 is below 10, and only partition does it. Matches of 14 that do not quite go on, a byte apart or
+ * sharing one, are stored, 10 + 38 against 40 + 10, which the pass does not see. */
 static const struct apart {
     struct accepted least, passed;
 } apart[] = {
@@ -539,6 +567,14 @@ static const struct apart {
     { { "a lone match at EN 1, EM 10", PRICED(1, 10, 256), LONE, VERSION_LONE, "010", "M20@20 N4 M20@0", "IJKL",
         { .cost = 256 * 25, .entries = 3, .stored = 4 } },
       { "a lone match at EN 1, EM 10", PRICED(1, 10, 256), LONE, VERSION_LONE, "000", LONE, "", { .cost = 256 * 30, .entries = 3, .looks = 3 } } },
+    { { "two matches a byte apart", AT(10, 256), "N5 M14@0 M14@15 N5", "01234ABCDEFGHIJKLMNPQRSTUVWXYZabc56789", "1111", "N38",
+        "01234ABCDEFGHIJKLMNPQRSTUVWXYZabc56789", { .cost = 256 * 48, .entries = 1, .stored = 38 } },
+      { "two matches a byte apart", AT(10, 256), "N5 M14@0 M14@15 N5", "01234ABCDEFGHIJKLMNPQRSTUVWXYZabc56789", "1001", "N5 M14@0 M14@15 N5", "0123456789",
+        { .cost = 256 * 50, .entries = 4, .stored = 10, .looks = 4 } } },
+    { { "two matches that share a byte", AT(10, 256), "N5 M14@0 M14@13 N5", "01234ABCDEFGHIJKLMNNOPQRSTUVWXYZa56789", "1111", "N38",
+        "01234ABCDEFGHIJKLMNNOPQRSTUVWXYZa56789", { .cost = 256 * 48, .entries = 1, .stored = 38 } },
+      { "two matches that share a byte", AT(10, 256), "N5 M14@0 M14@13 N5", "01234ABCDEFGHIJKLMNNOPQRSTUVWXYZa56789", "1001", "N5 M14@0 M14@13 N5",
+        "0123456789", { .cost = 256 * 50, .entries = 4, .stored = 10, .looks = 4 } } },
     { { "one match at EN 1, EM 10", PRICED(1, 10, 256), "M4@0", "ABCD", "1", "N4", "ABCD", { .cost = 256 * 5, .entries = 1, .stored = 4 } },
       { "one match at EN 1, EM 10", PRICED(1, 10, 256), "M4@0", "ABCD", "0", "M4@0", "", { .cost = 256 * 10, .entries = 1, .looks = 1 } } },
 };
@@ -559,6 +595,8 @@ static void test_accepted(void)
         give_both(fractions[i], STORE_3);
     for (size_t i = 0; i < sizeof two_prices / sizeof *two_prices; i++)
         give_both(two_prices[i], STORE);
+    for (size_t i = 0; i < sizeof runs / sizeof *runs; i++)
+        give_both(runs[i], STORE);
     for (size_t i = 0; i < sizeof apart / sizeof *apart; i++) {
         expect("partition", apart[i].least.what, gives(partition, &apart[i].least, STORE));
         expect("pass", apart[i].passed.what, gives(pass, &apart[i].passed, STORE));
@@ -597,6 +635,8 @@ static const struct {
     { "a match of 5 at 15 in a store of 19", AT(10, 256), "M5@15", "PQRST", "ABCDEFGHIJKLMNOPQRS", 7, 0 },
     { "no store", AT(10, 256), SHEET_C, VERSION_C, "", 7, 1 },
     { "address 4294967295", AT(10, 256), "N5 M19@4294967295 N5", VERSION_C, STORE, 7, 1 },
+    { "a match to 2^32, and one at 0", AT(10, 256), "N5 M1@4294967295 M18@0 N5", VERSION_C, STORE, 7, 1 },
+    { "a run that passes the store", AT(10, 256), "M20@0 M20@20 M1@40", STORE "A", STORE, 7, 2 },
     { "a match whose first byte differs", AT(10, 256), SHEET_C, VERSION_C, "-BCDEFGHIJKLMNOPQRS", 8, 1 },
     { "a match whose last byte differs", AT(10, 256), SHEET_C, VERSION_C, "ABCDEFGHIJKLMNOPQR-", 8, 1 },
     { "a second match that differs", AT(10, 256), "N5 M9@0 M10@10 N5", VERSION_C, STORE, 8, 2 },
@@ -645,7 +685,7 @@ static void test_greatest_lists(void)
 {
     size_t length = (size_t)RECORDS_MOST * RECORD_BYTES;
     uint8_t *most = memory(length + RECORD_BYTES), *out = memory(length), *bits = memory(RECORDS_MOST), *zeros = memory(length + RECORD_BYTES);
-    uint8_t *bytes = memory((size_t)VERSION_MOST + 1), *stored = memory(VERSION_MOST);
+    uint8_t *bytes = memory((size_t)VERSION_MOST + 1), *stored = memory(VERSION_MOST), one[RECORD_BYTES];
     expect("measure", "49,152 zero bytes, which pass check 3", refused(measured(10, 10, 256, zeros, length), 4, 0));
     expect("measure", "49,164 bytes", refused(measured(10, 10, 256, zeros, length + RECORD_BYTES), 3, 0));
     expect("measure", "49,151 bytes", refused(measured(10, 10, 256, zeros, length - 1), 3, 0));
@@ -671,6 +711,22 @@ static void test_greatest_lists(void)
     fill_areas();
     expect("pass", "4,096 records", answered(pass(1, 1, 1, most, length, bytes, VERSION_MOST, bytes, VERSION_MOST, bits, RECORDS_MOST, out, length,
         stored, VERSION_MOST, answer, sizeof answer), (struct values){ .cost = 4096, .entries = 4096, .looks = 4096 }));
+    /* 4,096 matches that go on become one of 16,777,216 bytes, with 4,096 bytes of 0 as its choice; measure prices them as they come. */
+    for (size_t i = 0; i < RECORDS_MOST; i++)
+        put_record(most, i, KIND_MATCH, VERSION_MOST / RECORDS_MOST, (uint32_t)(VERSION_MOST / RECORDS_MOST * i));
+    put_record(one, 0, KIND_MATCH, VERSION_MOST, 0);
+    expect("measure", "4,096 records that go on", answered(measured(10, 10, 256, most, length),
+        (struct values){ .cost = 256 * 40960, .entries = 4096, .whole = VERSION_MOST }));
+    memset(bits, 1, RECORDS_MOST);
+    fill_areas();
+    expect("partition", "4,096 records that go on", answered(partition(E_MOST, E_MOST, F_MOST, most, length, bytes, VERSION_MOST, bytes, VERSION_MOST, bits,
+        RECORDS_MOST, out, length, stored, VERSION_MOST, answer, sizeof answer), (struct values){ .cost = 16711425, .entries = 1 })
+        && memcmp(out, one, RECORD_BYTES) == 0 && memcmp(bits, zeros, RECORDS_MOST) == 0);
+    memset(bits, 1, RECORDS_MOST);
+    fill_areas();
+    expect("pass", "4,096 records that go on", answered(pass(E_MOST, E_MOST, F_MOST, most, length, bytes, VERSION_MOST, bytes, VERSION_MOST, bits,
+        RECORDS_MOST, out, length, stored, VERSION_MOST, answer, sizeof answer), (struct values){ .cost = 16711425, .entries = 1, .looks = 1 })
+        && memcmp(out, one, RECORD_BYTES) == 0 && memcmp(bits, zeros, RECORDS_MOST) == 0);
     /* Two matches of 2^32 256ths together, which a sum in 32 bits would take for 0: no price is worth them. */
     for (size_t i = 0; i < 2; i++)
         put_record(most, i, KIND_MATCH, VERSION_MOST / 2, (uint32_t)(VERSION_MOST / 2 * (1 - i)));

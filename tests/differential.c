@@ -13,7 +13,8 @@
  *   differential [seed]
  *
  * The same seed gives the same inputs. Exit 0 where nothing differs, each number of document 01, for each list of compare, and each kind of
- * price below was reached, and yes of two different lists and no were each given in two pairs of five or more; else 1.
+ * price below was reached, yes of two different lists and no were each given in two pairs of five or more, and of neighbouring matches two in five
+ * or more go on in the store and as many do not; else 1.
  */
 #include <inttypes.h>
 #include <signal.h>
@@ -406,6 +407,9 @@ static int try_call(int call, const struct input *in)
 
 static uint64_t dearer_passes, ties, lone_stored, lone_kept;
 
+/* Of the neighbouring matches that partition was handed and accepted: those where the second goes on in the store, and the others. */
+static uint64_t going_on, not_going_on;
+
 /* The factors at which a partition must have been accepted: the edges, and around one disk byte. */
 static struct { uint32_t f; uint64_t accepted; } factors[] = { { 1, 0 }, { 255, 0 }, { 256, 0 }, { 257, 0 }, { 65535, 0 } };
 enum { FACTORS = sizeof factors / sizeof factors[0] };
@@ -433,14 +437,28 @@ static uint64_t match_cost(const struct input *in)
     return (uint64_t)in->f * in->em;
 }
 
-/* The list and stored block that document 01 makes of a choice, into the areas of the laws; how many records. */
+/* Whether record i is a match that goes on in the store where the record before it, a match too, ended. */
+static int goes_on(const struct input *in, size_t i)
+{
+    const uint8_t *r = record(in->list, i);
+    return i > 0 && r[0] == 1 && r[-RECORD_BYTES] == 1 && (uint64_t)get32(r - RECORD_BYTES + 8) + get32(r - RECORD_BYTES + 4) == get32(r + 8);
+}
+
+static void tally_runs(const struct input *in)
+{
+    for (size_t i = 1; i < records(in); i++)
+        if (record(in->list, i)[0] == 1 && record(in->list, i - 1)[0] == 1)
+            *(goes_on(in, i) ? &going_on : &not_going_on) += 1;
+}
+
+/* The list and stored block that document 01, and document 02's S-4, make of a choice, into the areas of the laws; how many records. */
 static size_t list_of_choice(const struct input *in, const uint8_t *choice, size_t *stored)
 {
     size_t entries = 0, offset = 0;
     *stored = 0;
     for (size_t i = 0; i < records(in); i++) {
         const uint32_t size = size_at(in, i);
-        const int joins = choice[i] && i > 0 && choice[i - 1];
+        const int joins = i > 0 && choice[i] == choice[i - 1] && (choice[i] || goes_on(in, i));
         uint8_t *out = record(law_list, joins ? entries - 1 : entries);
         if (joins) {
             put32(out + 4, get32(out + 4) + size);
@@ -533,8 +551,8 @@ static uint64_t cost_of_bits(const struct input *in, uint32_t c)
         const uint32_t bit = c >> (n - 1 - i) & 1;
         if (!bit && record(in->list, i)[0] == 0)
             return UINT64_MAX;
-        const uint64_t new_entry = last ? 0 : new_cost(in);
-        cost += bit ? new_entry + UINT64_C(256) * size_at(in, i) : match_cost(in);
+        const uint64_t new_entry = last ? 0 : new_cost(in), match = !last && goes_on(in, i) ? 0 : match_cost(in);
+        cost += bit ? new_entry + UINT64_C(256) * size_at(in, i) : match;
         last = bit;
     }
     return cost;
@@ -561,7 +579,8 @@ static void law_of_least(const struct input *in)
             differ(PARTITION, "the choice is not the least of all choices", in);
 }
 
-/* A match that joins no new record, as none stands beside it, is stored exactly where its entry and bytes then cost less. */
+/* A match that joins no new record, as none stands beside it, is stored exactly where its entry and bytes then cost less; so never where it goes on
+ * from the match before it, or the next goes on from it, as it takes no entry then. */
 static void law_of_lone_matches(const struct input *in)
 {
     const size_t n = records(in);
@@ -569,7 +588,8 @@ static void law_of_lone_matches(const struct input *in)
     for (size_t i = 0; i < n; i++) {
         if (record(in->list, i)[0] == 0 || (i > 0 && choice[i - 1]) || (i + 1 < n && choice[i + 1]))
             continue;
-        const int cheaper = new_cost(in) + UINT64_C(256) * size_at(in, i) < match_cost(in);
+        const int in_run = goes_on(in, i) || (i + 1 < n && goes_on(in, i + 1));
+        const int cheaper = !in_run && new_cost(in) + UINT64_C(256) * size_at(in, i) < match_cost(in);
         if (choice[i] != cheaper)
             differ(PARTITION, cheaper ? "a lone match is kept that should be stored" : "a lone match is stored that should be kept", in);
         lone_stored += choice[i] == 1;
@@ -624,28 +644,39 @@ static void law_of_compare(const struct input *in)
     *(same == NO ? &no : one_list ? &yes_of_one_list : &yes_of_two_lists) += 1;
 }
 
+/* The list handed in with its runs joined, into the areas of the laws; how many records. */
+static size_t join_runs(const struct input *in, size_t *stored)
+{
+    for (size_t i = 0; i < records(in); i++)
+        law_choice[i] = record(in->list, i)[0] == 0;
+    return list_of_choice(in, law_choice, stored);
+}
+
 /* The list handed in, with its stored block, and the written one give the same version. */
 static void law_of_same_version(int call, const struct input *in)
 {
     size_t stored;
-    for (size_t i = 0; i < records(in); i++)
-        law_choice[i] = record(in->list, i)[0] == 0;
-    list_of_choice(in, law_choice, &stored);
+    join_runs(in, &stored);
     const struct listed handed = { in->list, in->list_len, law_block, stored };
     const struct listed written = { area(LIST, LIBRARY), RECORD_BYTES * given[call].entries, area(BLOCK, LIBRARY), given[call].stored };
     if (says(handed, written, in) != YES)
         differ(call, "the written list does not give the version of the list handed in", in);
 }
 
-/* The pass costs no less than partition's list and no more than the list handed in, and makes at most 2n - 1 looks. */
+/* The pass costs no less than partition's list, no more than the list handed in and no more than that with its runs joined, and makes at most
+ * 2n - 1 looks for the n records after joining. */
 static void law_of_pass(const struct input *in)
 {
-    const size_t n = records(in);
+    uint8_t answer[ANSWER_BYTES];
+    size_t stored;
+    const size_t n = join_runs(in, &stored);
     const struct given *g = &given[PASS];
     if (g->cost < given[PARTITION].cost)
         differ(PASS, "the pass costs less than partition", in);
     if (g->cost > given[MEASURE].cost)
         differ(PASS, "the pass costs more than the list handed in", in);
+    if (measure(in->en, in->em, in->f, law_list, RECORD_BYTES * n, answer, sizeof answer) != ACCEPTED || g->cost > answer_cost(answer))
+        differ(PASS, "the pass costs more than the list with its runs joined", in);
     if (n == 0 ? g->looks != 0 : g->looks > 2 * n - 1)
         differ(PASS, "too many looks", in);
     dearer_passes += g->cost > given[PARTITION].cost;
@@ -665,6 +696,7 @@ static void try_input(const struct input *in)
     const int accepted = try_call(PARTITION, in);
     if (accepted) {
         tally_price(in);
+        tally_runs(in);
         law_of_choice(PARTITION, in);
         law_of_measure(PARTITION, in);
         law_of_rebuild(PARTITION, in);
@@ -745,6 +777,20 @@ static void append_match(struct input *in, uint32_t size, uint32_t address)
     in->version_len += size;
 }
 
+/* An address for a match of so many bytes: mostly where the match before it ended, now and then a byte before or after that; else anywhere. About
+ * half of all neighbouring matches go on in the store then, as many cannot. */
+static uint32_t draw_address(const struct input *in, uint32_t size)
+{
+    const uint8_t *last = list_bytes + in->list_len - RECORD_BYTES;
+    const size_t most = in->store_len - size;
+    if (in->list_len > 0 && last[0] == 1 && !one_in(4)) {
+        const size_t end = (size_t)get32(last + 8) + get32(last + 4), near = one_in(8) ? end - 1 + below(3) : end;
+        if (near <= most)
+            return (uint32_t)near;
+    }
+    return one_in(4) ? (uint32_t)most : below(most + 1);
+}
+
 /* A few bytes more than needed, or none. */
 static size_t extra(void)
 {
@@ -776,8 +822,7 @@ static void append_records(struct input *in, const struct shape *shape)
             last_new = 1;
         } else if (in->store_len > 0) {
             const uint32_t part = fits ? size : 1 + below(in->store_len);
-            const size_t last = in->store_len - part;
-            append_match(in, part, one_in(4) ? (uint32_t)last : below(last + 1));
+            append_match(in, part, draw_address(in, part));
             last_new = 0;
         }
     }
@@ -1143,7 +1188,7 @@ static void every_list(const struct input *in, size_t more, int last_new)
     try_input(&next);
     for (uint32_t size = 1; more > 0 && size <= (in->en + in->em) * in->f / 256 + 1; size++) {
         next = *in;
-        append_match(&next, size, below(in->store_len - size + 1));
+        append_match(&next, size, draw_address(in, size));
         every_list(&next, more - 1, 0);
         if (last_new)
             continue;
@@ -1293,7 +1338,7 @@ static void long_cases(void)
             if (long_lists[i].records[j].is_new)
                 append_new(&in, size, 2);
             else
-                append_match(&in, size, below(in.store_len - size + 1));
+                append_match(&in, size, draw_address(&in, size));
         }
         complete(&in);
         try_input(&in);
@@ -1313,7 +1358,7 @@ static void longest_full_case(uint32_t en, uint32_t em, uint32_t f)
         if (i % 4 == 0)
             append_new(&in, RECORDS_MOST, 4);
         else
-            append_match(&in, RECORDS_MOST, below(in.store_len - RECORDS_MOST + 1));
+            append_match(&in, RECORDS_MOST, draw_address(&in, RECORDS_MOST));
     }
     complete(&in);
     try_input(&in);
@@ -1352,6 +1397,7 @@ static void print_table(void)
     }
     printf("short lists with another choice as cheap: %" PRIu64 "; passes dearer than partition: %" PRIu64 "\n", ties,
            dearer_passes);
+    printf("neighbouring matches: %" PRIu64 " go on in the store, %" PRIu64 " do not\n", going_on, not_going_on);
     printf("compare: yes of two different lists %" PRIu64 ", of one and the same %" PRIu64 ", no %" PRIu64 "\n", yes_of_two_lists,
            yes_of_one_list, no);
     printf("partitions accepted");
@@ -1383,14 +1429,19 @@ static int missing_prices(void)
     return count;
 }
 
-/* Whether yes of two different lists, or no, was given in less than two of five such pairs. */
-static int uneven_answers(void)
+/* Whether one of two counts is less than two fifths of both. */
+static int uneven(uint64_t a, uint64_t b, const char *what)
 {
-    const uint64_t both = yes_of_two_lists + no;
-    if (5 * yes_of_two_lists >= 2 * both && 5 * no >= 2 * both)
+    if (5 * a >= 2 * (a + b) && 5 * b >= 2 * (a + b))
         return 0;
-    printf("differential: yes of two different lists and no are not given about as often\n");
+    printf("differential: %s\n", what);
     return 1;
+}
+
+static int uneven_counts(void)
+{
+    return uneven(yes_of_two_lists, no, "yes of two different lists and no are not given about as often")
+        + uneven(going_on, not_going_on, "neighbouring matches do not go on in the store about as often as they do");
 }
 
 /* How many required columns were never reached. */
@@ -1439,7 +1490,7 @@ int main(int argc, char **argv)
         puts("differential: the long store was written to");
         return 1;
     }
-    if (missing_prices() + missing_columns() + uneven_answers() > 0)
+    if (missing_prices() + missing_columns() + uneven_counts() > 0)
         return 1;
     printf("differential: %" PRIu64 " calls compared, 0 differences\n", calls);
     return 0;

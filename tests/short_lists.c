@@ -1,10 +1,12 @@
 /* short_lists.c - partition and pass on every short list, against every choice of it and a second writing of the five rules.
  *
- * Written from document 01, and document 02's S-1 and S-2, alone: nothing here is of the crates or of tests/reference. The lists have 0 to
- * 6 records, new or match, of the sizes 1, 3, 4, 7 and 8; all of them are tried at each of eight prices: every entry at 4 disk bytes, at a
+ * Written from document 01, and document 02's S-1, S-2 and S-4, alone: nothing here is of the crates or of tests/reference. The lists have 0 to
+ * 6 records, new or match, of the sizes 1, 3, 4, 7 and 8, but none of 7 among six; each match after a match once goes on in the store
+ * where that one ended, and once begins a byte later. All of them are tried at each of eight prices: every entry at 4 disk bytes, at a
  * little less and a little more, and at 3 and a half; new entries cheaper than matches, twice; and dearer, twice. Partition must give the
- * choice that comes first among all; pass must give what the rules leave, and keep its bounds: no dearer than the list handed in, no cheaper
- * than the least choice, at most 2n - 1 looks, and no match stored alone. Answers are compared field by field and areas to their last byte.
+ * choice that comes first among all; pass must give what the rules leave, and keep its bounds: no dearer than the list handed in, nor than that with
+ * its runs joined, no cheaper than the least choice, at most 2n - 1 looks for the n records after joining, and no match stored alone. Answers are
+ * compared field by field and areas to their last byte.
  *
  * In order: the price; lists; a choice; the least choice; the pass; what is due; one call; one list; all lists; all prices.
  * Exit 0 and a line with the counts for each price, each held to its number, else 1 and a line for each of the first lists that are wrong.
@@ -124,10 +126,28 @@ static struct record under(const struct record *r, uint8_t bit)
     return bit == 0 ? *r : made_new;
 }
 
-/* Which neighbours become one record: two new ones. */
+/* Which neighbours become one record: two new ones, and two matches where the second begins in the store where the first ends. */
 static int join(const struct record *a, const struct record *b)
 {
-    return a->kind == NEW && b->kind == NEW;
+    return a->kind == b->kind && (a->kind == NEW || a->address + a->size == b->address);
+}
+
+/* The list with one record more, or with its last one longer. */
+static void put(struct list *list, struct record r)
+{
+    if (list->n > 0 && join(&list->at[list->n - 1], &r))
+        list->at[list->n - 1].size += r.size;
+    else
+        list->at[list->n++] = r;
+}
+
+/* A list with its runs joined. */
+static struct list joined(const struct list *list)
+{
+    struct list made = { .n = 0 };
+    for (size_t i = 0; i < list->n; i++)
+        put(&made, list->at[i]);
+    return made;
 }
 
 static int is_choice(const struct list *list, const uint8_t *bits)
@@ -142,13 +162,8 @@ static int is_choice(const struct list *list, const uint8_t *bits)
 static struct list list_of(const struct list *list, const uint8_t *bits)
 {
     struct list made = { .n = 0 };
-    for (size_t i = 0; i < list->n; i++) {
-        const struct record r = under(&list->at[i], bits[i]);
-        if (made.n > 0 && join(&made.at[made.n - 1], &r))
-            made.at[made.n - 1].size += r.size;
-        else
-            made.at[made.n++] = r;
-    }
+    for (size_t i = 0; i < list->n; i++)
+        put(&made, under(&list->at[i], bits[i]));
     return made;
 }
 
@@ -323,10 +338,12 @@ static struct due partition_due(const struct rivals *all)
     return due;
 }
 
-/* The list that the looks leave, and the choice that it is of: 1 for each record whose bytes lie in a new one. */
+/* The list that the looks leave of the one with its runs joined, and the choice that it is of: 1 for each record handed in whose bytes lie in a new
+ * one. */
 static struct due pass_due(const struct list *list)
 {
-    struct row row = row_of(list);
+    const struct list runs = joined(list);
+    struct row row = row_of(&runs);
     struct due due = { .looks = 0 };
     for (; row.p != row.rear; due.looks++)
         look(&row);
@@ -453,8 +470,11 @@ static void report(const struct list *list, const char *call, const char *what)
     if (++count.wrong > REPORTED)
         return;
     printf("short_lists: EN %" PRIu32 ", EM %" PRIu32 ", F %" PRIu32 ":", price.en, price.em, price.f);
-    for (size_t i = 0; i < list->n; i++)
+    for (size_t i = 0; i < list->n; i++) {
         printf(" %c%" PRIu32, list->at[i].kind == NEW ? 'N' : 'M', list->at[i].size);
+        if (list->at[i].kind == MATCH)
+            printf("@%" PRIu32, list->at[i].address);
+    }
     printf(": %s: %s\n", call, what);
 }
 
@@ -474,14 +494,16 @@ static void try_call(const char *name, call_of *call, const struct input *in, co
 static void try_list(const struct input *in)
 {
     const struct list *list = &in->list;
+    const struct list runs = joined(list);
     const struct rivals all = rivals_of(list);
     const struct due least = partition_due(&all), passed = pass_due(list);
     try_call("partition", partition, in, &least);
     try_call("pass", pass, in, &passed);
     expect(leaves_a_choice(list, &passed), list, "the rules", "leave no choice's list");
     expect(least.made.cost <= passed.made.cost, list, "the rules", "leave a list under the least cost");
-    expect(passed.made.cost <= cost(list), list, "the rules", "leave a list dearer than the one handed in");
-    expect(passed.looks <= most_looks(list), list, "the rules", "take more than 2n - 1 looks");
+    expect(passed.made.cost <= cost(&runs), list, "the rules", "leave a list dearer than the one with its runs joined");
+    expect(cost(&runs) <= cost(list), list, "runs joined", "cost more than the list handed in");
+    expect(passed.looks <= most_looks(&runs), list, "the rules", "take more than 2n - 1 looks");
     expect(stored_alone(list, passed.made.bits) == 0, list, "the rules", "store a match alone");
     count.lists++;
     count.choices += all.choices;
@@ -493,24 +515,40 @@ static void try_list(const struct input *in)
 
 /* ---- All lists ---- */
 
-/* The records of which lists are made. */
+/* The records of which lists are made; a match begins so many bytes after the end of the last one before it. */
 static const struct shape {
-    uint32_t kind, size;
+    uint32_t kind, size, gap;
 } shapes[] = {
-    { NEW, 1 }, { NEW, 3 }, { NEW, 4 }, { NEW, 7 }, { NEW, 8 },
-    { MATCH, 1 }, { MATCH, 3 }, { MATCH, 4 }, { MATCH, 7 }, { MATCH, 8 },
+    { NEW, 1, 0 }, { NEW, 3, 0 }, { NEW, 4, 0 }, { NEW, 7, 0 }, { NEW, 8, 0 },
+    { MATCH, 1, 0 }, { MATCH, 3, 0 }, { MATCH, 4, 0 }, { MATCH, 7, 0 }, { MATCH, 8, 0 },
+    { MATCH, 1, 1 }, { MATCH, 3, 1 }, { MATCH, 4, 1 }, { MATCH, 7, 1 }, { MATCH, 8, 1 },
 };
 
-/* Where record i begins in the store, if it is a match: before all that came before it, so that no match goes on where one ended. */
-static uint32_t address(size_t i)
+/* Where the last match of a list ends in the store; the first begins at 0. */
+static uint32_t end_of_last(const struct list *list)
 {
-    return (uint32_t)(50 - 10 * i);
+    for (size_t i = list->n; i > 0; i--)
+        if (list->at[i - 1].kind == MATCH)
+            return list->at[i - 1].address + list->at[i - 1].size;
+    return 0;
 }
 
-/* No new record right after a new one. */
+/* A sixth record, and five to go before it: none has 7 bytes, which two records of a run have together. */
+static int may_be_sixth(const struct list *list, const struct shape *shape)
+{
+    for (size_t i = 0; i < list->n; i++)
+        if (list->at[i].size == 7)
+            return 0;
+    return shape->size != 7;
+}
+
+/* No new record right after a new one; a gap right after a match alone, as a new record keeps matches apart without one. */
 static int may_follow(const struct list *list, const struct shape *shape)
 {
-    return list->n == 0 || list->at[list->n - 1].kind != NEW || shape->kind != NEW;
+    const uint32_t last = list->n == 0 ? MARK : list->at[list->n - 1].kind;
+    if (list->n == MOST - 1 && !may_be_sixth(list, shape))
+        return 0;
+    return shape->kind == NEW ? last != NEW : shape->gap == 0 || last == MATCH;
 }
 
 /* One record more, with its bytes of the version: a match has the store's, 1 to 60, a new one others, 100 and above. */
@@ -518,7 +556,7 @@ static struct input append(const struct input *in, const struct shape *shape)
 {
     struct input next = *in;
     struct record *r = &next.list.at[next.list.n];
-    *r = (struct record){ shape->kind, shape->size, shape->kind == MATCH ? address(next.list.n) : 0 };
+    *r = (struct record){ shape->kind, shape->size, shape->kind == MATCH ? end_of_last(&in->list) + shape->gap : 0 };
     next.list.n++;
     for (uint32_t i = 0; i < r->size; i++, next.whole++)
         next.version[next.whole] = r->kind == MATCH ? store[r->address + i] : (uint8_t)(100 + next.whole);
@@ -539,10 +577,11 @@ static void try_all_from(const struct input *in)
 
 /* ---- All prices ---- */
 
-/* Kinds of n records, no new one right after a new one, there are 1, 2, 3, 5, 8, 13, 21, each the sum of the two before; and 5 sizes
- * for each record: 1 + 2 * 5 + 3 * 25 + 5 * 125 + 8 * 625 + 13 * 3,125 + 21 * 15,625 lists. A choice is free at each match, so of
- * choices there are 1 + 3 * 5 + 8 * 25 + 22 * 125 + 60 * 625 + 164 * 3,125 + 448 * 15,625. */
-enum { LISTS = 374461, CHOICES = 7552966 };
+/* Of n kinds, a match after a match being of two, those that end new are as many as those of n - 1 that end with a match, and those that end with
+ * a match as many as those of n - 1 that end new and twice those that end with a match: 1, 2, 4, 10, 24, 58, 140 together; and 5 sizes for each
+ * record, 4 for each of six: 1 + 2 * 5 + 4 * 25 + 10 * 125 + 24 * 625 + 58 * 3,125 + 140 * 4,096 lists. A choice is free at each match, so of
+ * choices there are 1 + 3 * 5 + 12 * 25 + 54 * 125 + 240 * 625 + 1,068 * 3,125 + 4,752 * 4,096. */
+enum { LISTS = 771051, CHOICES = 22958758 };
 
 /* A price, and what was counted once at it: lists of which two choices or more cost least, passes dearer than partition, looks, and matches
  * that the least choice stores alone, of which there are none where EN is not less than EM. At EN = EM = 2 and F = 512 a match of 4 or 8 bytes
@@ -552,14 +591,14 @@ static const struct round {
     struct price price;
     uint64_t ties, dearer, looks, alone;
 } rounds[] = {
-    { { 2, 2, 512 }, 156779, 56252, 2160733, 0 },
-    { { 2, 2, 511 }, 0, 56252, 2160733, 0 },
-    { { 2, 2, 513 }, 0, 16981, 2156692, 0 },
-    { { 2, 2, 448 }, 65920, 26437, 2214766, 0 },
-    { { 1, 2, 512 }, 120423, 63753, 2229257, 44301 },
-    { { 1, 3, 448 }, 101152, 64283, 2297200, 69858 },
-    { { 5, 4, 256 }, 99967, 67018, 2106700, 0 },
-    { { 3, 1, 512 }, 60821, 22470, 2101510, 0 },
+    { { 2, 2, 512 }, 197498, 55489, 3256408, 0 },
+    { { 2, 2, 511 }, 0, 55489, 3256408, 0 },
+    { { 2, 2, 513 }, 0, 16892, 3316537, 0 },
+    { { 2, 2, 448 }, 30049, 33157, 3269444, 0 },
+    { { 1, 2, 512 }, 185334, 108088, 3308961, 91219 },
+    { { 1, 3, 448 }, 29088, 138444, 3437383, 136506 },
+    { { 5, 4, 256 }, 149894, 62762, 3212153, 0 },
+    { { 3, 1, 512 }, 57431, 20235, 3166226, 0 },
 };
 
 /* Tries all lists at a price; whether all went well. */

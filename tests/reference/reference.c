@@ -1,8 +1,9 @@
 /* reference.c - the calls of document 01, with costs in 256ths of a disk byte and a price for new entries and one for matches (document 02,
- * S-1 and S-2), and compare (S-3), a second time, in plain C.
+ * S-1 and S-2), compare (S-3), and runs of matches that go on in the store (S-4), a second time, in plain C.
  *
- * In order: limits; reading and writing of fields; the checks of the inputs; the cost; measure, rebuild and check; compare; the
- * least choice; the pass; what partition and pass write. It shares no line with the library and takes nothing from its header.
+ * In order: limits; reading and writing of fields; the checks of the inputs; the cost; measure, rebuild and check; compare; runs; the
+ * least choice; the pass; what partition and pass write. It shares no line with the library and takes nothing from its header. Where the library
+ * prices each record by the one before it, this looks for the runs first, and chooses for them.
  */
 #include "reference.h"
 
@@ -327,9 +328,52 @@ uint32_t ref_compare(const uint8_t *first, size_t first_len,
     return give(&a, answer);
 }
 
+/* ---- Runs: matches that go on in the store ---- */
+
+/* Whether record i is a match that begins where the one before it, a match too, ended. */
+static int goes_on(const uint8_t *list, size_t i)
+{
+    if (i == 0 || list[RECORD * i] != MATCH || list[RECORD * (i - 1)] != MATCH)
+        return 0;
+    return (uint64_t)address_of(list, i - 1) + size_of(list, i - 1) == address_of(list, i);
+}
+
+/* The runs of a list: run r is the records first[r] to first[r + 1] - 1, one new record, or a match and those that go on from it; with its kind and
+ * its bytes. */
+static size_t first[MOST_RECORDS + 1];
+static uint8_t run_kind[MOST_RECORDS];
+static uint32_t run_bytes[MOST_RECORDS];
+
+/* Finds the runs of n records; how many there are. */
+static size_t find_runs(const uint8_t *list, size_t n)
+{
+    size_t runs = 0;
+    for (size_t i = 0; i < n; i++) {
+        if (!goes_on(list, i)) {
+            first[runs] = i;
+            run_kind[runs] = list[RECORD * i];
+            run_bytes[runs] = 0;
+            runs++;
+        }
+        run_bytes[runs - 1] += size_of(list, i);
+    }
+    first[runs] = n;
+    return runs;
+}
+
+/* Gives the records of so many runs, from one on, their byte. */
+static void choose_runs(uint8_t *choice, size_t run, size_t count, int stored)
+{
+    memset(choice + first[run], stored, first[run + count] - first[run]);
+}
+
 /* ---- The least choice ---- */
 
-/* The least cost of the records from i on, where the one before i is kept (or is none), and where it is new. */
+/* No least choice keeps one part of a run and stores another: of two such neighbours, to keep the stored one too spares its bytes, and either leaves
+ * as many entries or spares one. So the runs are chosen for, as if each were one record; and two choices of runs differ first where the
+ * choices of their records do. */
+
+/* The least cost of the runs from r on, where the one before r is kept (or is none), and where it is new. */
 static uint64_t after_kept[MOST_RECORDS + 1], after_new[MOST_RECORDS + 1];
 
 static uint64_t lesser(uint64_t a, uint64_t b)
@@ -338,47 +382,49 @@ static uint64_t lesser(uint64_t a, uint64_t b)
 }
 
 /* Fills both rows from the rear. */
-static void fill_costs(const uint8_t *list, size_t n, const struct price *price)
+static void fill_costs(size_t runs, const struct price *price)
 {
     const uint64_t new_entry = entry_cost(price, NEW), match = entry_cost(price, MATCH);
-    after_kept[n] = 0;
-    after_new[n] = 0;
-    for (size_t i = n; i-- > 0;) {
-        const uint64_t joined = bytes_cost(size_of(list, i)) + after_new[i + 1];
-        const uint64_t kept = match + after_kept[i + 1];
-        const int is_new = list[RECORD * i] == NEW;
-        after_new[i] = is_new ? joined : lesser(kept, joined);
-        after_kept[i] = is_new ? new_entry + joined : lesser(kept, new_entry + joined);
+    after_kept[runs] = 0;
+    after_new[runs] = 0;
+    for (size_t r = runs; r-- > 0;) {
+        const uint64_t joined = bytes_cost(run_bytes[r]) + after_new[r + 1];
+        const uint64_t kept = match + after_kept[r + 1];
+        const int is_new = run_kind[r] == NEW;
+        after_new[r] = is_new ? joined : lesser(kept, joined);
+        after_kept[r] = is_new ? new_entry + joined : lesser(kept, new_entry + joined);
     }
 }
 
-/* Chooses forwards; a match is stored only where that costs less. */
+/* Chooses forwards; a run of matches is stored only where that costs less. */
 static void choose_least(const uint8_t *list, size_t n, const struct price *price, uint8_t *choice)
 {
     const uint64_t new_entry = entry_cost(price, NEW), match = entry_cost(price, MATCH);
-    fill_costs(list, n, price);
+    const size_t runs = find_runs(list, n);
+    fill_costs(runs, price);
     uint64_t entry = new_entry;
-    for (size_t i = 0; i < n; i++) {
-        const uint64_t joined = entry + bytes_cost(size_of(list, i)) + after_new[i + 1];
-        const uint64_t kept = match + after_kept[i + 1];
-        choice[i] = list[RECORD * i] == NEW || joined < kept;
-        entry = choice[i] ? 0 : new_entry;
+    for (size_t r = 0; r < runs; r++) {
+        const uint64_t joined = entry + bytes_cost(run_bytes[r]) + after_new[r + 1];
+        const uint64_t kept = match + after_kept[r + 1];
+        const int stored = run_kind[r] == NEW || joined < kept;
+        choose_runs(choice, r, 1, stored);
+        entry = stored ? 0 : new_entry;
     }
 }
 
 /* ---- The pass ---- */
 
-/* The list of the pass, doubly linked: 0 is the front mark, 1 to n the records, n + 1 the rear mark. */
+/* The list of the pass, doubly linked: 0 is the front mark, 1 to n the runs, n + 1 the rear mark. */
 static uint8_t kind[MOST_RECORDS + 2];
 static uint32_t size[MOST_RECORDS + 2];
 static uint16_t before[MOST_RECORDS + 2], after[MOST_RECORDS + 2];
 
-static void link_records(const uint8_t *list, size_t n)
+static void link_runs(size_t runs)
 {
-    for (size_t i = 0; i <= n + 1; i++) {
-        const int mark = i == 0 || i == n + 1;
-        kind[i] = mark ? MARK : list[RECORD * (i - 1)];
-        size[i] = mark ? 0 : size_of(list, i - 1);
+    for (size_t i = 0; i <= runs + 1; i++) {
+        const int mark = i == 0 || i == runs + 1;
+        kind[i] = mark ? MARK : run_kind[i - 1];
+        size[i] = mark ? 0 : run_bytes[i - 1];
         before[i] = (uint16_t)(i == 0 ? 0 : i - 1);
         after[i] = (uint16_t)(i + 1);
     }
@@ -422,16 +468,17 @@ static uint16_t look(uint16_t p, const struct price *price)
     return a;
 }
 
-/* Looks until p is the rear, then reads the choice off the list; the number of looks. */
+/* Joins the runs, looks until p is the rear, then reads the choice off the list; the number of looks. */
 static uint32_t choose_by_pass(const uint8_t *list, size_t n, const struct price *price, uint8_t *choice)
 {
-    const uint16_t rear = (uint16_t)(n + 1);
+    const size_t runs = find_runs(list, n);
+    const uint16_t rear = (uint16_t)(runs + 1);
     uint32_t looks = 0;
-    link_records(list, n);
+    link_runs(runs);
     for (uint16_t p = 1; p != rear; looks++)
         p = look(p, price);
     for (uint16_t p = after[0]; p != rear; p = after[p])
-        memset(choice + (p - 1), kind[p] == NEW, (size_t)(after[p] - p));
+        choose_runs(choice, p - 1u, (size_t)(after[p] - p), kind[p] == NEW);
     return looks;
 }
 
@@ -458,13 +505,15 @@ static struct answer judge(const struct job *job)
     return walk(in);
 }
 
-/* The sizes of the run of 1s that begins at *i, together; *i goes to its end. */
-static uint32_t run_size(const struct job *job, size_t n, size_t *i)
+/* The sizes, together, of the records that become one with record *i: the 1s from it on, or the 0s that go on from it; *i goes to their end. */
+static uint32_t joined_size(const struct job *job, size_t n, size_t *i)
 {
-    uint32_t run = 0;
-    for (; *i < n && job->choice[*i]; ++*i)
-        run += size_of(job->in.list, *i);
-    return run;
+    const uint8_t bit = job->choice[*i];
+    uint32_t sum = 0;
+    do
+        sum += size_of(job->in.list, (*i)++);
+    while (*i < n && job->choice[*i] == bit && (bit == 1 || goes_on(job->in.list, *i)));
+    return sum;
 }
 
 /* Writes the choice's list and stored block; the answer carries its entries, stored bytes and cost. */
@@ -475,18 +524,18 @@ static struct answer write_choice(const struct job *job)
     uint8_t *out = job->list_area;
     struct answer a = {0};
     for (size_t i = 0; i < n; out += RECORD, a.entries++) {
-        if (!job->choice[i]) {
-            memcpy(out, job->in.list + RECORD * i, RECORD);
-            from += size_of(job->in.list, i++);
-            continue;
-        }
-        const uint32_t run = run_size(job, n, &i);
-        a.new_entries++;
+        const int stored = job->choice[i];
+        const uint32_t address = stored ? 0 : address_of(job->in.list, i), covered = joined_size(job, n, &i);
         memset(out, 0, RECORD);
-        put32(out + 4, run);
-        memcpy(job->block_area + a.stored, from, run);
-        from += run;
-        a.stored += run;
+        out[0] = stored ? NEW : MATCH;
+        put32(out + 4, covered);
+        put32(out + 8, address);
+        if (stored) {
+            a.new_entries++;
+            memcpy(job->block_area + a.stored, from, covered);
+            a.stored += covered;
+        }
+        from += covered;
     }
     a.cost = list_cost(&job->price, &a);
     return a;
