@@ -23,9 +23,9 @@ enum { EN = 12, EM = 16, F = 4 * 256 };
 
 /* ---- The inputs ---- */
 
-enum kinds { MATCHES, NEWS, TURNS };
+enum kinds { MATCHES, NEWS, TURNS, RUNS };
 
-/* A list: so many records over so many bytes, all matches, all new (which is one record) or in turns; 0 bytes: small records. */
+/* A list: so many records over so many bytes, all matches, all new (which is one record) or in turns; 0 bytes: small records, by chance or in runs. */
 struct shape {
     const char *name;
     uint32_t records, bytes;
@@ -85,6 +85,14 @@ static void add_small(int *after_new)
     add(!*after_new, size, draw() % 65536);
 }
 
+/* A small match, of 1 to 48 bytes: half of them go on in the store where the match before them ended. */
+static void add_to_run(uint32_t *end)
+{
+    const uint32_t size = 1 + draw() % 48, address = draw() % 2 ? *end : draw() % 65536;
+    add(1, size, address);
+    *end = address + size;
+}
+
 static uint32_t number_at(const uint8_t *at)
 {
     return (uint32_t)at[0] | (uint32_t)at[1] << 8 | (uint32_t)at[2] << 16 | (uint32_t)at[3] << 24;
@@ -116,11 +124,15 @@ static void set_second(void)
 static void set_input(const struct shape *shape)
 {
     int after_new = 0;
+    uint32_t end = 0;
     state = SEED;
     in.list_len = in.version_len = in.block_len = 0;
     for (uint32_t i = 0; i < shape->records; i++) {
         if (shape->bytes == 0) {
-            add_small(&after_new);
+            if (shape->kinds == RUNS)
+                add_to_run(&end);
+            else
+                add_small(&after_new);
             continue;
         }
         const uint32_t size = shape->bytes / shape->records;
@@ -273,6 +285,7 @@ static const struct shape many = { "16 MiB, 4,096 records", RECORDS_MOST, VERSIO
 static const struct shape one_match = { "16 MiB, one match", 1, VERSION_MOST, MATCHES };
 static const struct shape one_new = { "16 MiB, one new record", 1, VERSION_MOST, NEWS };
 static const struct shape small = { "4,096 small records", RECORDS_MOST, 0, TURNS };
+static const struct shape runs = { "4,096 matches in runs", RECORDS_MOST, 0, RUNS };
 static const struct shape even = { "4,096 records of 48 bytes", RECORDS_MOST, 48 * RECORDS_MOST, TURNS };
 static const struct shape even_512 = { "512 records of 48 bytes", 512, 48 * 512, TURNS };
 static const struct shape few_1 = { "1 MiB, 8 records", 8, VERSION_MOST / 16, TURNS };
@@ -294,11 +307,11 @@ static void print_growth(int call, const struct shape *from, const struct shape 
 
 static void print_all_times(void)
 {
-    const struct shape *const shapes[] = { &few, &many, &one_match, &one_new, &small };
+    const struct shape *const shapes[] = { &few, &many, &one_match, &one_new, &small, &runs };
     printf("%-10s %-23s %12s %12s %8s\n", "call", "input", "library us", "reference us", "ratio");
     for (int call = 0; call < CALLS; call++)
         for (unsigned i = 0; i < sizeof shapes / sizeof *shapes; i++)
-            if (call >= REBUILD || (shapes[i] != &one_match && shapes[i] != &one_new))
+            if (shapes[i] == &runs ? call >= PARTITION : call >= REBUILD || (shapes[i] != &one_match && shapes[i] != &one_new))
                 print_times(call, shapes[i]);
 }
 
@@ -321,8 +334,9 @@ int main(int count, char **arguments)
     }
     set_up();
     printf("Library and reference in turn, medians of 3 to %d samples; every buffer was written beforehand. EN %d, EM %d, F %d.\n"
-           "Records in turns are new, match, new, match, of one size; small ones have 1 to 128 bytes, new or match by chance. The second list\n"
-           "of compare gives the same version, cut at other places: of a match behind a new record, half is stored with that.\n\n",
+           "Records in turns are new, match, new, match, of one size; small ones have 1 to 128 bytes, new or match by chance; of the matches in\n"
+           "runs, of 1 to 48 bytes, half go on in the store. The second list of compare gives the same version, cut at other places: of a match\n"
+           "behind a new record, half is stored with that.\n\n",
            SAMPLES, EN, EM, F);
     print_all_times();
     print_all_growth();

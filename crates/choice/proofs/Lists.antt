@@ -4,6 +4,7 @@ use Prim.Native.Nat.{ℕ, suc, _+_, _≤_}
 use native.Mathlib.Omega.{arith}
 use native.Mathlib.Numerals.{add-one}
 use mathlib.Core.Path.{_≡_, refl, _∙_, ap}
+use mathlib.Core.Bool.{false}
 use mathlib.Core.List.{List, [], _∷_, _++_}
 use lib.ListN.{length, drop}
 use Rattle.format.specs.declared.Record.{Record}
@@ -12,7 +13,8 @@ use Rattle.format.specs.Meaning.{sizeOf, whole}
 use Rattle.format.proofs.Encoding.{from-shift}
 use Rattle.format.specs.WellFormed.{Sized, Apart, Agrees, WellFormed}
 use Rattle.area.specs.Area.{over}
-use Rattle.join.proofs.Joining.{length-join, whole-join, sized-join, apart-join, agrees-join}
+use Rattle.join.specs.Join.{joinsFirst, join}
+use Rattle.join.proofs.Joining.{join-off, length-join, whole-join, sized-join, apart-join, agrees-join}
 use Rattle.choice.specs.Choice.{Bit, keep, store, bitByte, bitBytes, bitAt, bitsOf, IsChoice, chosenRecord, listOf}
 use Rattle.choice.proofs.Unjoining.{keep-store}
 
@@ -44,6 +46,15 @@ bits-back (b ∷ c) t =
 -- the bits of an area that begins with a choice
 pub bits-over : (n : ℕ) (c : List Bit) (area : List ℕ) → length c ≡ n → bitsOf n (over (bitBytes c) area) ≡ c
 bits-over n c area e = rw (← e) (bits-back c (drop (length (bitBytes c)) area))
+
+-- ---- kept records
+
+-- a kept match that does not join the next record does not join what a choice leaves of it
+pub kept-apart : (s a : ℕ) (rs : List Record) (c : List Bit) → joinsFirst (Match s a) rs ≡ false → join (Match s a) (listOf rs c) ≡ Match s a ∷ listOf rs c
+kept-apart s a [] c e = refl
+kept-apart s a (r ∷ rs) [] e = refl
+kept-apart s a (r ∷ rs) (keep ∷ c) e = join-off (Match s a) r (listOf rs c) e
+kept-apart s a (r ∷ rs) (store ∷ c) e = join-off (Match s a) (New (sizeOf r)) (listOf rs c) refl
 
 -- ---- sizes
 

@@ -6,3 +6,4 @@ pub mod ScalingHolds
 pub mod FormerHolds
 pub mod LoneHolds
 pub mod ComparingHolds
+pub mod NoRunsHolds

@@ -5,3 +5,4 @@ pub mod Scaling
 pub mod Former
 pub mod Lone
 pub mod Comparing
+pub mod NoRuns

@@ -12,11 +12,11 @@ use Rattle.format.specs.declared.Record.{Record}
 use Rattle.format.specs.declared.Record.the-variants.{New, Match}
 use Rattle.format.specs.Meaning.{sizeOf}
 use Rattle.format.specs.WellFormed.{Sized}
-use Rattle.join.specs.Join.{joins, grown, joinsFirst, join, tidy, Settled}
-use Rattle.join.proofs.Joining.{join-off, settled-tidy}
+use Rattle.join.specs.Join.{joins, grown, join, tidy, Settled}
+use Rattle.join.proofs.Joining.{settled-tidy}
 use Rattle.choice.specs.Choice.{Bit, keep, store, freedom, May, IsChoice, chosenRecord, listOf}
 use Rattle.choice.specs.Alone.{firstKept, storesAlone}
-use Rattle.choice.proofs.Lists.{size-chosen, sized-list}
+use Rattle.choice.proofs.Lists.{kept-apart, size-chosen, sized-list}
 use Rattle.choice.proofs.Unjoining.{keep-store, unjoined, carried, spared}
 use Rattle.rules.specs.Rules.{Item, new, match, size, isNew}
 use Rattle.rules.proofs.ByKind.{and-false}
@@ -80,13 +80,6 @@ items-join-new : (s t : ℕ) (l : List Record) (is : List Item) → items l ≡ 
 items-join-new s t [] is e = cc
 items-join-new s t (New u ∷ l) is e = cc
 items-join-new s t (Match u a ∷ l) is e = cc
-
--- a kept match that does not join the next record does not join what a choice leaves of it
-kept-apart : (s a : ℕ) (rs : List Record) (c : List Bit) → joinsFirst (Match s a) rs ≡ false → join (Match s a) (listOf rs c) ≡ Match s a ∷ listOf rs c
-kept-apart s a [] c e = refl
-kept-apart s a (r ∷ rs) [] e = refl
-kept-apart s a (r ∷ rs) (keep ∷ c) e = join-off (Match s a) r (listOf rs c) e
-kept-apart s a (r ∷ rs) (store ∷ c) e = join-off (Match s a) (New (sizeOf r)) (listOf rs c) refl
 
 -- where the first item may join one before it, that one is stored
 abbrev Before : Bool → Bool → Type 0

@@ -1,0 +1,75 @@
+-- Document 02, S-4: "The sheets hold, as none of their matches goes on in the store". So do all answers for such lists: the former rule is said here a
+-- second time, as document 01 had it, and what partition and pass then gave.
+--
+-- In order: the former rule, list of a choice, least choice and pass; what partition and pass answer and write for a list of which no two neighbours
+-- join, by their contracts. (No two new records stand side by side in a list that is accepted, so only matches could.)
+-- Assumes nothing.
+use Prim.Native.Nat.{ℕ, _+_}
+use mathlib.Core.Path.{_≡_}
+use mathlib.Core.List.{List, [], _∷_}
+use lib.ListN.{length}
+use Rattle.format.specs.declared.Record.{Record}
+use Rattle.format.specs.declared.Record.the-variants.{New, Match}
+use Rattle.format.specs.declared.Ruling.{Ruling}
+use Rattle.format.specs.Refusal.{answer, unlessRefused}
+use Rattle.format.specs.Record.{recordsOf}
+use Rattle.price.specs.declared.Price.{Price}
+use Rattle.price.specs.declared.Rates.{Rates}
+use Rattle.price.specs.Price.{ratesOf, cost}
+use Rattle.join.specs.Join.{Settled}
+use Rattle.choice.specs.Choice.{Bit, choices, chosen, firstOf}
+use Rattle.admit.specs.Admit.{partitionRuling}
+use Rattle.writer.specs.Decide.{figures, laid}
+use Rattle.call_partition.specs.Partition.{Partitioned}
+use Rattle.rules.specs.Rules.{testsOf}
+use Rattle.rules.specs.declared.Outcome.{Outcome}
+use Rattle.linear.specs.Pass.{items, pass, endItems, choiceOf}
+use Rattle.call_pass.specs.Pass.{PassMade}
+use Rattle.demand.specs.Demand.{Call}
+
+-- ---- the former definitions
+
+-- new records joined; "matches that follow each other in the store still take one entry each"
+abbrev pub formerJoin : Record → List Record → List Record
+formerJoin (New s) [] = New s ∷ []
+formerJoin (New s) (New t ∷ l) = New (s + t) ∷ l
+formerJoin (New s) (Match t b ∷ l) = New s ∷ Match t b ∷ l
+formerJoin (Match s a) l = Match s a ∷ l
+
+abbrev pub formerTidy : List Record → List Record
+formerTidy [] = []
+formerTidy (r ∷ l) = formerJoin r (formerTidy l)
+
+-- the list of a choice
+abbrev pub formerList : List Record → List Bit → List Record
+formerList rs c = formerTidy (chosen rs c)
+
+-- of all choices in order, the first whose list costs least
+abbrev pub formerLeast : Rates → List Record → List Bit
+formerLeast r rs = firstOf (λ c. cost r (formerList rs c)) (choices rs)
+
+-- the pass looked at the records as handed in: how each look ended, and the choice
+abbrev pub formerOutcomes : Rates → List Record → List Outcome
+formerOutcomes r rs = pass (testsOf r) (items rs) .outcomes
+
+abbrev pub formerPass : Rates → List Record → List Bit
+formerPass r rs = choiceOf rs (endItems (testsOf r) (items rs))
+
+-- ---- lists of which no two neighbours join
+
+-- the call x, for the ruling q on its inputs, answers and writes what the choice c and the list l come to, found in so many looks
+pub record GivesList (q : Ruling) (r : Rates) (v : List ℕ) (c : List Bit) (l : List Record) (looks : ℕ) (x : Call) : Type 0 where
+  pub answered : x .answer ≡ answer q (figures r l looks)
+  pub areas-after : x .after ≡ unlessRefused q (laid c l v (x .before)) (x .before)
+
+pub record AsBefore (price : Price) (list v st : List ℕ) (x : Call) : Type 0 where
+  pub partition-stays : Partitioned price list v st (x .before) (x .answer) (x .after)
+      → let c = formerLeast (ratesOf price) (recordsOf list) in
+      GivesList (partitionRuling price list v st (x .before)) (ratesOf price) v c (formerList (recordsOf list) c) 0 x
+  pub pass-stays : PassMade price list v st (x .before) (x .answer) (x .after)
+      → let c = formerPass (ratesOf price) (recordsOf list) in
+      GivesList (partitionRuling price list v st (x .before)) (ratesOf price) v c (formerList (recordsOf list) c) (length (formerOutcomes (ratesOf price) (recordsOf list))) x
+
+-- for every price, list, version and store, and for all answers and areas
+abbrev pub NoRuns : Type 0
+NoRuns = (price : Price) (list v st : List ℕ) (x : Call) → Settled (recordsOf list) → AsBefore price list v st x
