@@ -76,7 +76,7 @@ extern "C" {
 #define ANSWER_BYTES 32
 
 /* The version of this library: it grows when a call, an answer or a number changes. */
-#define CONTROLLER_VERSION 4
+#define CONTROLLER_VERSION 5
 
 /* EN and EM are 1 to E_MOST, F is 1 to F_MOST. */
 #define E_MOST 255
@@ -149,7 +149,7 @@ static inline uint32_t answer_whole(const uint8_t *answer) { return answer_word(
 /* measure - what a list costs.
  *
  * Does: adds up a list: its records, the sizes of its new records, all its sizes, and its cost at the price of EN, EM and F:
- *   F * (EN * new entries + EM * matches) + 256 * stored bytes.
+ *   F * (EN * new entries + EM * matches) + 256 * stored bytes. Records are counted as they come, also matches that go on in the store.
  * Areas: list.
  * Writes: answer (cost, entries, stored bytes, whole length).
  * Refuses, in this order: 1 at 0; 3 at 0; then record by record 4, 5, 6 at the record.
@@ -208,11 +208,12 @@ uint32_t compare(const uint8_t *first, size_t first_len,
 /* partition - the list that costs least.
  *
  * Does: of all ways to keep each match or to store its bytes again, takes the one whose list costs least at the price of EN, EM and F,
- *   new records that come to stand next to each other fused; of several that cost the same, the one that keeps at the first record
- *   where they differ.
+ *   new records that come to stand next to each other fused, and kept matches too where the second begins in the store where the first ends:
+ *   such a run is one record and one entry, with the first's address and the sizes together. Of several that cost the same it takes the one that
+ *   keeps at the first record where they differ.
  * Areas: version, the bytes to be kept; store, the old data; list, which describes version against store; choice, 1 byte for each
  *   record; list_area, as long as list; block_area, as long as version.
- * Writes: the first bytes of choice, one for each record (0 kept as match, 1 new); the first bytes of list_area, the new list, 12 for
+ * Writes: the first bytes of choice, one for each record handed in (0 kept as match, 1 new); the first bytes of list_area, the new list, 12 for
  *   each of its entries; the first bytes of block_area, its stored block; bytes beyond are unchanged. answer (cost, entries and stored
  *   bytes of the new list).
  * Refuses, in this order: 1 at 0; 2 at 0; 3 at 0; 9 at 0; record by record 4, 5, 6, 7, 8 at the record; 6 at the number of records.
@@ -229,11 +230,12 @@ uint32_t partition(uint32_t en, uint32_t em, uint32_t f,
 
 /* pass - the published linear method, look by look.
  *
- * Does: moves a cursor over the list, and merges a short match into new neighbours, or two short matches into a new record, by the five
- *   rules of docs/SPECIFICATION.md ("Pass"); one look at a record at a time, at most 2n - 1 of them for n records. It never stores a match
- *   that stands alone, which may be worth it where EN is less than EM.
+ * Does: joins the runs of matches that go on in the store, as partition does; then moves a cursor over the list, and merges a short match into
+ *   new neighbours, or two short matches into a new record, by the five rules of docs/SPECIFICATION.md ("Pass"); one look at a record at a time,
+ *   at most 2n - 1 of them for n records, each run counted as one. It never stores a match that stands alone, which may be worth it where EN is
+ *   less than EM.
  * Areas, writes, refuses, on refusal, returns: as for partition. answer also gives the looks. The list costs no less than partition's
- *   and no more than the one handed in. It is no faster: on 4,096 short records it takes five to twenty times as long as partition. */
+ *   and no more than the one handed in, as measure prices that. It is no faster: on 4,096 short records it takes five to twenty times as long as partition. */
 uint32_t pass(uint32_t en, uint32_t em, uint32_t f,
               const uint8_t *list, size_t list_len,
               const uint8_t *version, size_t version_len,
