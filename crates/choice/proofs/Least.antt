@@ -1,6 +1,6 @@
 -- The cost of a choice's list is a path's cost; so the least choice is the path that `pick` picks, and a list partitioned once stays as it is.
 -- Assumes nothing.
-use Prim.Native.Nat.{ℕ, _+_, _*_, _≤_}
+use Prim.Native.Nat.{_+_, _≤_}
 use native.Mathlib.Omega.{arith}
 use mathlib.Core.Path.{_≡_, refl, sym, _∙_, ap}
 use mathlib.Core.Bool.{Bool, true, false, cond}
@@ -11,13 +11,12 @@ use Rattle.format.specs.declared.Record.the-variants.{New, Match}
 use Rattle.format.specs.Meaning.{sizeOf}
 use Rattle.price.specs.declared.Rates.{Rates}
 use Rattle.price.specs.Price.{cost}
-use Rattle.join.specs.declared.Open.{Open}
 use Rattle.join.specs.declared.Open.the-variants.{No, One}
 use Rattle.join.specs.Join.{joins, grown, join, tidy}
 use Rattle.join.proofs.Joining.{joins-on, join-on, join-off, settled-tidy, tidy-settled}
 use Rattle.choice.specs.Choice.{Bit, keep, store, IsChoice, chosenRecord, chosen, listOf, costOf, least, Early, IsLeast, keepAll}
 use Rattle.choice.specs.Path.{walk, best, pick, after, step, entryOf, bytesIn}
-use Rattle.choice.proofs.Path.{Beats, first, walk-pick, pick-is-first, pick-fits, pick-beats, pick-first, first-fits, choices-cong, le-beats, early-antisym}
+use Rattle.choice.proofs.Path.{Beats, first, walk-pick, pick-is-first, pick-fits, pick-beats, pick-first, choices-cong, le-beats, early-antisym}
 use Rattle.choice.proofs.Unjoining.{lifted}
 
 module _ (rates : Rates) where

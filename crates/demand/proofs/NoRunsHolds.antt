@@ -12,7 +12,7 @@ use Rattle.format.specs.Record.{recordsOf}
 use Rattle.format.specs.Meaning.{sizeOf}
 use Rattle.price.specs.declared.Rates.{Rates}
 use Rattle.price.specs.Price.{ratesOf, cost}
-use Rattle.join.specs.Join.{join, tidy, Settled}
+use Rattle.join.specs.Join.{join, Settled}
 use Rattle.join.proofs.Joining.{tidy-settled}
 use Rattle.choice.specs.Choice.{Bit, keep, store, listOf, costOf, least}
 use Rattle.choice.proofs.Path.{choices-cong}

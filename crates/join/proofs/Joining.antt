@@ -185,6 +185,7 @@ pub tidy-settled : (l : List Record) → Settled l → tidy l ≡ l
 tidy-settled [] h = refl
 tidy-settled (r ∷ l) h = ap (join r) (tidy-settled l (h .1)) ∙ join-settled r l (h .0)
 
+-- it is no longer than the list, and covers as much
 pub length-tidy : (l : List Record) → length (tidy l) ≤ length l
 length-tidy [] = omega arith
 length-tidy (r ∷ l) = omega (arith, length-join r (tidy l), length-tidy l)
@@ -193,10 +194,7 @@ pub whole-tidy : (l : List Record) → whole (tidy l) ≡ whole l
 whole-tidy [] = refl
 whole-tidy (r ∷ l) = whole-join r (tidy l) ∙ ap (λ (n : ℕ). sizeOf r + n) (whole-tidy l)
 
-pub sized-tidy : (l : List Record) → Sized l → Sized (tidy l)
-sized-tidy [] h = tt
-sized-tidy (r ∷ l) h = sized-join r (tidy l) (h .0) (sized-tidy l (h .1))
-
+-- no two new records of it stand side by side
 pub apart-tidy : (l : List Record) → Apart (tidy l)
 apart-tidy [] = tt
 apart-tidy (r ∷ l) = apart-join r (tidy l) (apart-tidy l)

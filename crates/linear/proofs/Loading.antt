@@ -159,9 +159,6 @@ module _ (list : List ℕ) where
       pub laid-joined : Laid list (set kinds right k) (set sizes right (s + getD sizes right 0)) (i - 1) right
       laid-joined = laid-put right (s + getD sizes right 0) (omega arith) (omega arith) (joined .inside) (omega (arith, h .placed, h .in-n)) (joined .holds)
 
-      pub joined-inside : right < 4097
-      joined-inside = joined .inside
-
       pub joined-most : whole (recordsOf list) ≤ versionMost → s + getD sizes right 0 ≤ versionMost
       joined-most m =
           omega (arith, joined .most, whole-tidy (recordsFrom list (length list / 12) i), ap whole back, whole-from list (length list / 12) (i - 1), ap whole (recordsFrom-all list), m)

@@ -2,7 +2,7 @@
 -- choice stores no match alone.
 -- In order: a choice is read off its own list; items that were fused are the list of a choice of the tidy form; and so of one of the records.
 -- Assumes nothing.
-use Prim.Native.Nat.{ℕ, _+_, _-_, _≤_, _<_}
+use Prim.Native.Nat.{ℕ, _+_, _-_, _≤_}
 use native.Mathlib.Omega.{arith}
 use mathlib.Core.Path.{_≡_, refl, sym, ap, _∙_}
 use mathlib.Core.Bool.{Bool, true, false, not, cond}
@@ -18,9 +18,9 @@ use Rattle.choice.specs.Choice.{Bit, keep, store, freedom, May, IsChoice, chose
 use Rattle.choice.specs.Alone.{firstKept, storesAlone}
 use Rattle.choice.proofs.Lists.{kept-apart, size-chosen, sized-list}
 use Rattle.choice.proofs.Unjoining.{keep-store, unjoined, carried, spared}
-use Rattle.rules.specs.Rules.{Item, new, match, size, isNew}
+use Rattle.rules.specs.Rules.{Item, new, match, isNew}
 use Rattle.rules.proofs.ByKind.{and-false}
-use Rattle.linear.specs.Pass.{first, itemFor, items, shrunk, cut, bitFor, choiceOf}
+use Rattle.linear.specs.Pass.{first, itemFor, items, cut, bitFor, choiceOf}
 use Rattle.linear.proofs.Fusing.{Tidy, Fused, Fuses, none, takeNew, takeMatch, moreNew, moreMatch, keepMatch}
 
 -- ---- a choice is read off its own list

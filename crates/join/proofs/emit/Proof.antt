@@ -1,8 +1,6 @@
 -- `join::emit` meets its contract: no record is open, the two join, or the open one is written. Assumes nothing.
 use native.Mathlib.Omega.{arith}
-use mathlib.Core.Path.{_≡_, sym, _∙_, ap}
-use Prim.Native.Nat.{ℕ, _+_, _≤_}
-use lib.ListN.{length}
+use mathlib.Core.Path.{sym, _∙_, ap}
 use Rattle.join.specs.Join.{grown}
 use Rattle.join.proofs.Emitting.{emits-first, emits-joint, emits-room, emits-written}
 use borrow.Author.Needs.{needs}

@@ -2,8 +2,6 @@
 use Prim.Native.Nat.{_+_}
 use native.Mathlib.Omega.{arith}
 use mathlib.Core.Path.{sym, _∙_, ap, ap₂}
-use mathlib.Core.List.{List}
-use Rattle.format.specs.declared.Record.{Record}
 use Rattle.format.specs.Record.{rowAt, recordOf}
 use Rattle.format.proofs.Rows.{recordsFrom-next, recordsFrom-none}
 use Rattle.join.specs.Join.{joins, joinsFirst}

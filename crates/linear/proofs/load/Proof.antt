@@ -1,9 +1,9 @@
 -- `linear::load` meets its contract. The invariant: `Laid` says that the tidy form of the records from i on stands from `right` on. The measure is i.
 -- Assumes nothing.
-use Prim.Native.Nat.{ℕ, _-_, _/_}
+use Prim.Native.Nat.{ℕ, _-_}
 use native.Mathlib.Omega.{arith}
-use mathlib.Core.Path.{_≡_, refl, sym, subst}
-use Rattle.linear.proofs.Loading.{Laid, laid-start, laid-apart, laid-joined, joined-inside, joined-most, loaded-of-laid}
+use mathlib.Core.Path.{_≡_, refl, subst}
+use Rattle.linear.proofs.Loading.{Laid, laid-start, laid-apart, laid-joined, joined-most, loaded-of-laid}
 use borrow.Author.Needs.{needs}
 use Rattle.linear.proofs.load.Statement.{statement}
 use Rattle.linear.proofs.load.Tie as tie
@@ -33,22 +33,13 @@ joins-next-requires : tie.Need-joins-next-requires Inv-loop μ-loop
 joins-next-requires c κs = (omega (arith, c .before .before .before .before .loop .inv .in-n), omega arith)
 
 array-write-kinds : tie.Need-array-write-kinds Inv-loop μ-loop
-array-write-kinds c =
-    let g = c .before .before .before .before .before .before .before .before .args in
-    let l = c .before .before .before .before .before .before .loop in
-    omega (arith, joined-inside (g .list .now) (l .inv) (omega arith) (c .before .before .before .before .record-at .ensures) (c .before .before .before .kind-of .ensures) (c .before .before .size-of .ensures) (c .before .joins-next .ensures) (c .if1 .taken))
+array-write-kinds c = omega (arith, c .before .before .before .before .before .before .loop .inv .within)
 
 mul-sizes : tie.Need-mul-sizes Inv-loop μ-loop
-mul-sizes c =
-    let g = c .before .before .before .before .before .before .before .before .args in
-    let l = c .before .before .before .before .before .before .loop in
-    omega (arith, joined-inside (g .list .now) (l .inv) (omega arith) (c .before .before .before .before .record-at .ensures) (c .before .before .before .kind-of .ensures) (c .before .before .size-of .ensures) (c .before .joins-next .ensures) (c .if1 .taken))
+mul-sizes c = omega (arith, c .before .before .before .before .before .before .loop .inv .within)
 
 array-read-sizes : tie.Need-array-read-sizes Inv-loop μ-loop
-array-read-sizes c =
-    let g = c .before .before .before .before .before .before .before .before .args in
-    let l = c .before .before .before .before .before .before .loop in
-    omega (arith, joined-inside (g .list .now) (l .inv) (omega arith) (c .before .before .before .before .record-at .ensures) (c .before .before .before .kind-of .ensures) (c .before .before .size-of .ensures) (c .before .joins-next .ensures) (c .if1 .taken))
+array-read-sizes c = omega (arith, c .before .before .before .before .before .before .loop .inv .within)
 
 add-sizes : tie.Need-add-sizes Inv-loop μ-loop
 add-sizes c =
@@ -57,16 +48,10 @@ add-sizes c =
     omega (arith, joined-most (g .list .now) (l .inv) (omega arith) (c .before .before .before .before .record-at .ensures) (c .before .before .before .kind-of .ensures) (c .before .before .size-of .ensures) (c .before .joins-next .ensures) (c .if1 .taken) (c .before .before .before .before .before .before .before .before .pre .1))
 
 mul-sizes-2 : tie.Need-mul-sizes-2 Inv-loop μ-loop
-mul-sizes-2 c =
-    let g = c .before .before .before .before .before .before .before .before .args in
-    let l = c .before .before .before .before .before .before .loop in
-    omega (arith, joined-inside (g .list .now) (l .inv) (omega arith) (c .before .before .before .before .record-at .ensures) (c .before .before .before .kind-of .ensures) (c .before .before .size-of .ensures) (c .before .joins-next .ensures) (c .if1 .taken))
+mul-sizes-2 c = omega (arith, c .before .before .before .before .before .before .loop .inv .within)
 
 array-write-sizes : tie.Need-array-write-sizes Inv-loop μ-loop
-array-write-sizes c =
-    let g = c .before .before .before .before .before .before .before .before .args in
-    let l = c .before .before .before .before .before .before .loop in
-    omega (arith, joined-inside (g .list .now) (l .inv) (omega arith) (c .before .before .before .before .record-at .ensures) (c .before .before .before .kind-of .ensures) (c .before .before .size-of .ensures) (c .before .joins-next .ensures) (c .if1 .taken))
+array-write-sizes c = omega (arith, c .before .before .before .before .before .before .loop .inv .within)
 
 loop-less : tie.Need-loop-less Inv-loop μ-loop
 loop-less c = search needs

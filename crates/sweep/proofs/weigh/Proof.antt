@@ -1,7 +1,4 @@
 -- `sweep::weigh` meets its contract: both ways with the record. Assumes nothing.
-use mathlib.Core.Path.{ap}
-use Rattle.join.specs.declared.Open.{Open}
-use Rattle.sweep.specs.Sweep.{Better}
 use Rattle.sweep.proofs.Sweeping.{turned-of}
 use borrow.Author.Needs.{needs}
 use Rattle.sweep.proofs.weigh.Statement.{statement}
