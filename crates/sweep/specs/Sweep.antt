@@ -36,7 +36,7 @@ wayOf rates o r kept stored =
     let b = decide (freedom r) k n in
     record { cost = record { 0 = at b k n }; bit = bitByte b }
 
--- no step costs more
+-- no step costs more: the dearest entry, 255 × 65,535, and 2³² stored bytes at 256 each
 abbrev pub stepMost : ℕ
 stepMost = 1099528339201
 

@@ -1,6 +1,7 @@
 // The least choice of a list, by two sweeps: linear time, and no memory beyond the lent choice area and a few numbers.
 //
-// From the rear: the least cost of what follows a kept and a stored record, and for each record two bits, what to do after either.
+// From the rear: the least cost of what follows a kept and a stored record, and for each record two bits, what to do after either. A record is priced
+// by the one before it, which it may join.
 // From the front: each pair of bits becomes the choice byte.
 ghost use mathlib.Core.Path.{_≡_};
 ghost use Prim.Native.Nat.{_*_, _/_, _≤_};
