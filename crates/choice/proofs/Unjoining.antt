@@ -1,5 +1,5 @@
--- Choices of a tidy form, and of the list that it was made of: each choice of the first is one of the second, with the same list; and so is each
--- choice of the list of a choice.
+-- Choices of a tidy form, and of the list that it was made of: each choice of the first is one of the second, with the same list; so is each choice of
+-- the list of a choice; and where the first stores no match alone, nor does the second.
 -- Assumes nothing.
 use Prim.Native.Nat.{ℕ}
 use native.Mathlib.Omega.{arith}
