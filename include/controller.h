@@ -235,7 +235,7 @@ uint32_t partition(uint32_t en, uint32_t em, uint32_t f,
  *   at most 2n - 1 of them for n records, each run counted as one. It never stores a match that stands alone, which may be worth it where EN is
  *   less than EM.
  * Areas, writes, refuses, on refusal, returns: as for partition. answer also gives the looks. The list costs no less than partition's
- *   and no more than the one handed in, as measure prices that. It is no faster: on 4,096 short records it takes five to twenty times as long as partition. */
+ *   and no more than the one handed in, as measure prices that. It is no faster: on 4,096 short records it takes four to twenty times as long as partition. */
 uint32_t pass(uint32_t en, uint32_t em, uint32_t f,
               const uint8_t *list, size_t list_len,
               const uint8_t *version, size_t version_len,

@@ -781,9 +781,9 @@ static void append_match(struct input *in, uint32_t size, uint32_t address)
  * half of all neighbouring matches go on in the store then, as many cannot. */
 static uint32_t draw_address(const struct input *in, uint32_t size)
 {
-    const uint8_t *last = list_bytes + in->list_len - RECORD_BYTES;
+    const uint8_t *last = in->list_len == 0 ? NULL : list_bytes + in->list_len - RECORD_BYTES;
     const size_t most = in->store_len - size;
-    if (in->list_len > 0 && last[0] == 1 && !one_in(4)) {
+    if (last != NULL && last[0] == 1 && !one_in(4)) {
         const size_t end = (size_t)get32(last + 8) + get32(last + 4), near = one_in(8) ? end - 1 + below(3) : end;
         if (near <= most)
             return (uint32_t)near;
