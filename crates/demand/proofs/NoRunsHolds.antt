@@ -21,19 +21,19 @@ use Rattle.writer.specs.Decide.{Decided}
 use Rattle.rules.specs.Rules.{testsOf}
 use Rattle.linear.specs.Pass.{items, pass, endItems, passOutcomes, passChoice, choiceOf}
 use Rattle.demand.specs.Demand.{Call}
-use Rattle.demand.specs.NoRuns.{formerJoin, formerList, formerLeast, formerOutcomes, formerPass, GivesList, NoRuns}
+use Rattle.demand.specs.NoRuns.{plainJoin, plainList, plainLeast, plainOutcomes, plainPass, GivesList, NoRuns}
 
-join-new : (s : ℕ) (l : List Record) → join (New s) l ≡ formerJoin (New s) l
+join-new : (s : ℕ) (l : List Record) → join (New s) l ≡ plainJoin (New s) l
 join-new s [] = refl
 join-new s (New t ∷ l) = refl
 join-new s (Match t b ∷ l) = refl
 
-list-former : (rs : List Record) (c : List Bit) → Settled rs → listOf rs c ≡ formerList rs c
-list-former [] c h = refl
-list-former (r ∷ rs) [] h = refl
-list-former (r ∷ rs) (store ∷ c) h = join-new (sizeOf r) (listOf rs c) ∙ ap (formerJoin (New (sizeOf r))) (list-former rs c (h .1))
-list-former (New s ∷ rs) (keep ∷ c) h = join-new s (listOf rs c) ∙ ap (formerJoin (New s)) (list-former rs c (h .1))
-list-former (Match s a ∷ rs) (keep ∷ c) h = kept-apart s a rs c (h .0) ∙ ap (formerJoin (Match s a)) (list-former rs c (h .1))
+list-plain : (rs : List Record) (c : List Bit) → Settled rs → listOf rs c ≡ plainList rs c
+list-plain [] c h = refl
+list-plain (r ∷ rs) [] h = refl
+list-plain (r ∷ rs) (store ∷ c) h = join-new (sizeOf r) (listOf rs c) ∙ ap (plainJoin (New (sizeOf r))) (list-plain rs c (h .1))
+list-plain (New s ∷ rs) (keep ∷ c) h = join-new s (listOf rs c) ∙ ap (plainJoin (New s)) (list-plain rs c (h .1))
+list-plain (Match s a ∷ rs) (keep ∷ c) h = kept-apart s a rs c (h .0) ∙ ap (plainJoin (Match s a)) (list-plain rs c (h .1))
 
 -- what a call gives by one choice and its list, it gives by another choice and list that are the same
 gives-list : {q : Ruling} {r : Rates} {list v : List ℕ} {c d : List Bit} {l : List Record} {looks n : ℕ} (x : Call)
@@ -41,14 +41,14 @@ gives-list : {q : Ruling} {r : Rates} {list v : List ℕ} {c d : List Bit} {l : 
 gives-list x made e f g = rw (← g, ← f, ← e) (record { answered = made .answered; areas-after = made .areas-after })
 
 module _ (r : Rates) (rs : List Record) (h : Settled rs) where
-  least-stays : least r rs ≡ formerLeast r rs
-  least-stays = choices-cong (costOf r rs) (λ c. cost r (formerList rs c)) rs (λ c k. ap (cost r) (list-former rs c h))
+  least-stays : least r rs ≡ plainLeast r rs
+  least-stays = choices-cong (costOf r rs) (λ c. cost r (plainList rs c)) rs (λ c k. ap (cost r) (list-plain rs c h))
 
-  outcomes-stay : passOutcomes r rs ≡ formerOutcomes r rs
+  outcomes-stay : passOutcomes r rs ≡ plainOutcomes r rs
   unfolding passOutcomes
   outcomes-stay = ap (λ (l : List Record). pass (testsOf r) (items l) .outcomes) (tidy-settled rs h)
 
-  pass-stays : passChoice r rs ≡ formerPass r rs
+  pass-stays : passChoice r rs ≡ plainPass r rs
   pass-stays = ap (λ (l : List Record). choiceOf rs (endItems (testsOf r) (items l))) (tidy-settled rs h)
 
 pub no-runs : NoRuns
@@ -56,6 +56,6 @@ no-runs price list v st x h =
     let r = ratesOf price in
     let rs = recordsOf list in
     record {
-      partition-stays = λ made. gives-list x made (least-stays r rs h) (list-former rs (formerLeast r rs) h) refl;
-      pass-stays = λ made. gives-list x (made .decided) (pass-stays r rs h) (list-former rs (formerPass r rs) h) (ap length (outcomes-stay r rs h));
+      partition-stays = λ made. gives-list x made (least-stays r rs h) (list-plain rs (plainLeast r rs) h) refl;
+      pass-stays = λ made. gives-list x (made .decided) (pass-stays r rs h) (list-plain rs (plainPass r rs) h) (ap length (outcomes-stay r rs h));
     }

@@ -1,8 +1,9 @@
 -- Document 02, S-4: "The sheets hold, as none of their matches goes on in the store". So do all answers for such lists: the former rule is said here a
 -- second time, as document 01 had it, and what partition and pass then gave.
 --
--- In order: the former rule, list of a choice, least choice and pass; what partition and pass answer and write for a list of which no two neighbours
--- join, by their contracts. (No two new records stand side by side in a list that is accepted, so only matches could.)
+-- In order: the former rule, and by it the list of a choice, the least choice and the pass, each called plain; what partition and pass answer and
+-- write for a list of which no two neighbours join, by their contracts. (No two new records stand side by side in a list that is accepted, so only
+-- matches could.)
 -- Assumes nothing.
 use Prim.Native.Nat.{ℕ, _+_}
 use mathlib.Core.Path.{_≡_}
@@ -27,33 +28,33 @@ use Rattle.linear.specs.Pass.{items, pass, endItems, choiceOf}
 use Rattle.call_pass.specs.Pass.{PassMade}
 use Rattle.demand.specs.Demand.{Call}
 
--- ---- the former definitions
+-- ---- by the former rule
 
 -- new records joined; "matches that follow each other in the store still take one entry each"
-abbrev pub formerJoin : Record → List Record → List Record
-formerJoin (New s) [] = New s ∷ []
-formerJoin (New s) (New t ∷ l) = New (s + t) ∷ l
-formerJoin (New s) (Match t b ∷ l) = New s ∷ Match t b ∷ l
-formerJoin (Match s a) l = Match s a ∷ l
+abbrev pub plainJoin : Record → List Record → List Record
+plainJoin (New s) [] = New s ∷ []
+plainJoin (New s) (New t ∷ l) = New (s + t) ∷ l
+plainJoin (New s) (Match t b ∷ l) = New s ∷ Match t b ∷ l
+plainJoin (Match s a) l = Match s a ∷ l
 
-abbrev pub formerTidy : List Record → List Record
-formerTidy [] = []
-formerTidy (r ∷ l) = formerJoin r (formerTidy l)
+abbrev pub plainTidy : List Record → List Record
+plainTidy [] = []
+plainTidy (r ∷ l) = plainJoin r (plainTidy l)
 
 -- the list of a choice
-abbrev pub formerList : List Record → List Bit → List Record
-formerList rs c = formerTidy (chosen rs c)
+abbrev pub plainList : List Record → List Bit → List Record
+plainList rs c = plainTidy (chosen rs c)
 
 -- of all choices in order, the first whose list costs least
-abbrev pub formerLeast : Rates → List Record → List Bit
-formerLeast r rs = firstOf (λ c. cost r (formerList rs c)) (choices rs)
+abbrev pub plainLeast : Rates → List Record → List Bit
+plainLeast r rs = firstOf (λ c. cost r (plainList rs c)) (choices rs)
 
 -- the pass looked at the records as handed in: how each look ended, and the choice
-abbrev pub formerOutcomes : Rates → List Record → List Outcome
-formerOutcomes r rs = pass (testsOf r) (items rs) .outcomes
+abbrev pub plainOutcomes : Rates → List Record → List Outcome
+plainOutcomes r rs = pass (testsOf r) (items rs) .outcomes
 
-abbrev pub formerPass : Rates → List Record → List Bit
-formerPass r rs = choiceOf rs (endItems (testsOf r) (items rs))
+abbrev pub plainPass : Rates → List Record → List Bit
+plainPass r rs = choiceOf rs (endItems (testsOf r) (items rs))
 
 -- ---- lists of which no two neighbours join
 
@@ -64,11 +65,11 @@ pub record GivesList (q : Ruling) (r : Rates) (v : List ℕ) (c : List Bit) (l :
 
 pub record AsBefore (price : Price) (list v st : List ℕ) (x : Call) : Type 0 where
   pub partition-stays : Partitioned price list v st (x .before) (x .answer) (x .after)
-      → let c = formerLeast (ratesOf price) (recordsOf list) in
-      GivesList (partitionRuling price list v st (x .before)) (ratesOf price) v c (formerList (recordsOf list) c) 0 x
+      → let c = plainLeast (ratesOf price) (recordsOf list) in
+      GivesList (partitionRuling price list v st (x .before)) (ratesOf price) v c (plainList (recordsOf list) c) 0 x
   pub pass-stays : PassMade price list v st (x .before) (x .answer) (x .after)
-      → let c = formerPass (ratesOf price) (recordsOf list) in
-      GivesList (partitionRuling price list v st (x .before)) (ratesOf price) v c (formerList (recordsOf list) c) (length (formerOutcomes (ratesOf price) (recordsOf list))) x
+      → let c = plainPass (ratesOf price) (recordsOf list) in
+      GivesList (partitionRuling price list v st (x .before)) (ratesOf price) v c (plainList (recordsOf list) c) (length (plainOutcomes (ratesOf price) (recordsOf list))) x
 
 -- for every price, list, version and store, and for all answers and areas
 abbrev pub NoRuns : Type 0

@@ -54,6 +54,11 @@ stored-record r l = go (isNew r)
 pub recordsFrom-next : (list : List ℕ) (n i : ℕ) → i < n → recordsFrom list n i ≡ recordOf (rowAt list i) ∷ recordsFrom list n (i + 1)
 recordsFrom-next list n i h = ap records (from-next (rowAt list) i n h)
 
+pub recordsFrom-back : (list : List ℕ) (n i : ℕ) → 0 < i → i ≤ n → recordsFrom list n (i - 1) ≡ recordOf (rowAt list (i - 1)) ∷ recordsFrom list n i
+recordsFrom-back list n i h k =
+    let e : i - 1 + 1 ≡ i = omega arith in
+    recordsFrom-next list n (i - 1) (omega arith) ∙ ap (λ (j : ℕ). recordOf (rowAt list (i - 1)) ∷ recordsFrom list n j) e
+
 pub recordsFrom-none : (list : List ℕ) (n i : ℕ) → n ≤ i → recordsFrom list n i ≡ []
 recordsFrom-none list n i h = ap records (from-none (rowAt list) i n h)
 

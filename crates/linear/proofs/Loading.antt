@@ -15,7 +15,7 @@ use Rattle.format.specs.declared.Record.the-variants.{New, Match}
 use Rattle.format.specs.Limits.{versionMost}
 use Rattle.format.specs.Record.{rowAt, recordOf, recordsOf, recordsFrom}
 use Rattle.format.specs.Meaning.{sizeOf, whole}
-use Rattle.format.proofs.Rows.{recordsFrom-next, recordsFrom-none, recordsFrom-all}
+use Rattle.format.proofs.Rows.{recordsFrom-next, recordsFrom-back, recordsFrom-none, recordsFrom-all}
 use Rattle.join.specs.Join.{grown, joinsFirst, join, tidy}
 use Rattle.join.proofs.Joining.{join-true, join-settled, first-tidy, whole-tidy}
 use Rattle.rules.specs.Rules.{Item, mark, size, itemOf}
@@ -94,16 +94,12 @@ module _ (list : List ℕ) where
   module _ {kinds sizes : List ℕ} {i right : ℕ} (h : Laid list kinds sizes i right) (some : 0 < i)
       {r : Record} (is : r ≡ recordOf (rowAt list (i - 1))) {k s : ℕ} (kind-is : k ≡ kindOf r) (size-is : s ≡ sizeOf r)
       {x : Bool} (test : x ≡ joinsFirst (recordOf (rowAt list (i - 1))) (recordsFrom list (length list / 12) (i - 1 + 1))) where
-    up : i - 1 + 1 ≡ i
-    up = omega arith
-
     back : recordsFrom list (length list / 12) (i - 1) ≡ r ∷ recordsFrom list (length list / 12) i
-    back =
-        recordsFrom-next list (length list / 12) (i - 1) (omega (arith, h .in-n))
-        ∙ ap₂ (λ (y : Record) (j : ℕ). y ∷ recordsFrom list (length list / 12) j) (sym is) up
+    back = recordsFrom-back list (length list / 12) i some (h .in-n) ∙ ap (λ (y : Record). y ∷ recordsFrom list (length list / 12) i) (sym is)
 
     first-is : joinsFirst r (tidy (recordsFrom list (length list / 12) i)) ≡ x
     first-is =
+        let up : i - 1 + 1 ≡ i = omega arith in
         first-tidy r (recordsFrom list (length list / 12) i)
         ∙ ap₂ (λ (y : Record) (j : ℕ). joinsFirst y (recordsFrom list (length list / 12) j)) is (sym up)
         ∙ sym test

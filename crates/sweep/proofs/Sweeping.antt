@@ -11,7 +11,7 @@ use lib.ListN.{length, getD, take, drop, set}
 use lib.Seq.{take-suc, set-at, length-take-le, drop-cons, take-suc-set, drop-set-lt, append-snoc}
 use Rattle.format.specs.declared.Record.{Record}
 use Rattle.format.specs.Record.{rowAt, recordOf, recordsOf, recordsFrom}
-use Rattle.format.proofs.Rows.{recordsFrom-next, recordsFrom-none, recordsFrom-all, length-recordsOf}
+use Rattle.format.proofs.Rows.{recordsFrom-back, recordsFrom-none, recordsFrom-all, length-recordsOf}
 use Rattle.price.specs.declared.Cost.{Cost}
 use Rattle.price.specs.declared.Rates.{Rates}
 use Rattle.join.specs.declared.Open.{Open}
@@ -63,11 +63,6 @@ turned-of rates o r kept held k s hk hs = record { is = rw (hk .is, hs .is, left
 pub records-end : (list : List ℕ) (n : ℕ) → recordsFrom list n n ≡ []
 records-end list n = recordsFrom-none list n n (omega arith)
 
-pub records-back : (list : List ℕ) (n i : ℕ) → 0 < i → i ≤ n → recordsFrom list n (i - 1) ≡ recordOf (rowAt list (i - 1)) ∷ recordsFrom list n i
-records-back list n i h k =
-    let e : i - 1 + 1 ≡ i = omega arith in
-    recordsFrom-next list n (i - 1) (omega arith) ∙ ap (λ (j : ℕ). recordOf (rowAt list (i - 1)) ∷ recordsFrom list n j) e
-
 before-next : (list : List ℕ) (i : ℕ) → 0 < i → beforeAt list i ≡ One (recordOf (rowAt list (i - 1)))
 before-next list i h = let some : i ≡ 0 → ⊥ = λ e. omega arith in rw (ne-eqb i 0 some)
 
@@ -86,7 +81,7 @@ pub swept-next : {rates : Rates} {list : List ℕ} {n i kept held : ℕ} {h : Li
 swept-next {rates} {list} {n} {i} {kept} {held} {h} s some most t e = rw (e, s .kept-is, s .held-is, s .hints-are, before-next list i some) (record { kept-is = rw back; held-is = rw back; hints-are = rw back })
   where
     back : recordsFrom list n (i - 1) ≡ recordOf (rowAt list (i - 1)) ∷ recordsFrom list n i
-    back = records-back list n i some most
+    back = recordsFrom-back list n i some most
 
 pub set-back : (c e : List ℕ) (i x : ℕ) → 0 < i → i ≤ length c → set (take i c ++ e) (i - 1) x ≡ take (i - 1) c ++ (x ∷ e)
 set-back c e i x h k =
