@@ -99,29 +99,32 @@ solved s =
     let c = least (rates s) l in
     worked (s .price) l c (costOf (rates s) l c) (costOf (rates s) l (passChoice (rates s) l)) (passLooks (rates s) l)
 
--- a choice of a list, and the list that it makes
+-- a choice of a list, the list that it makes, and what that costs at EN = EM = 10 and F 256
 pub record Making : Type 0 where
   pub list : List Record
   pub choice : List Bit
   pub made : List Record
+  pub cost : ℕ
 
-abbrev pub making : List Record → List Bit → List Record → Making
-making l c m = record { list = l; choice = c; made = m }
+abbrev pub making : List Record → List Bit → List Record → ℕ → Making
+making l c m n = record { list = l; choice = c; made = m; cost = n }
 
+-- costs in disk bytes, times 256; the middle of a run is stored for two entries and its 4 bytes, and the last two rows are the tie
 abbrev pub makings : List Making
 makings =
-    making (parts 14) (store ∷ keep ∷ keep ∷ store ∷ []) (New 5 ∷ Match 28 0 ∷ New 5 ∷ [])
-    ∷ making (parts 50) (store ∷ keep ∷ keep ∷ store ∷ []) (parts 50)
-    ∷ making running (keep ∷ keep ∷ keep ∷ []) (Match 44 0 ∷ [])
-    ∷ making running (keep ∷ store ∷ keep ∷ []) (Match 20 0 ∷ New 4 ∷ Match 20 24 ∷ [])
-    ∷ making running (store ∷ store ∷ keep ∷ []) (New 24 ∷ Match 20 24 ∷ [])
-    ∷ making cutRun (keep ∷ store ∷ keep ∷ []) cutRun
-    ∷ making tied (keep ∷ keep ∷ store ∷ store ∷ []) (Match 10 0 ∷ New 2 ∷ [])
+    making (parts 14) (store ∷ keep ∷ keep ∷ store ∷ []) (New 5 ∷ Match 28 0 ∷ New 5 ∷ []) (256 * 40)
+    ∷ making (parts 50) (store ∷ keep ∷ keep ∷ store ∷ []) (parts 50) (256 * 50)
+    ∷ making running (keep ∷ keep ∷ keep ∷ []) (Match 44 0 ∷ []) (256 * 10)
+    ∷ making running (keep ∷ store ∷ keep ∷ []) (Match 20 0 ∷ New 4 ∷ Match 20 24 ∷ []) (256 * 34)
+    ∷ making running (store ∷ store ∷ keep ∷ []) (New 24 ∷ Match 20 24 ∷ []) (256 * 44)
+    ∷ making cutRun (keep ∷ store ∷ keep ∷ []) cutRun (256 * 35)
+    ∷ making tied (keep ∷ keep ∷ store ∷ store ∷ []) (Match 10 0 ∷ New 2 ∷ []) (256 * 22)
+    ∷ making tied (store ∷ store ∷ store ∷ store ∷ []) (New 12 ∷ []) (256 * 22)
     ∷ []
 
 -- as the definitions have it
 abbrev pub remade : Making → Making
-remade m = making (m .list) (m .choice) (listOf (m .list) (m .choice))
+remade m = making (m .list) (m .choice) (listOf (m .list) (m .choice)) (costOf (ratesOf (price 10 10 256)) (m .list) (m .choice))
 
 -- the definitions have each as the tables have it
 abbrev pub TableHolds : Type 0
