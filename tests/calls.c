@@ -11,7 +11,7 @@
 
 #include "controller.h"
 
-#define CASES 333
+#define CASES 576
 #define FILL 0xA5
 #define AREA 256
 
@@ -668,6 +668,81 @@ static void test_refused(call *made, const char *name)
         list_area, AREA, block_area, AREA, answer, ANSWER_BYTES - 1)));
 }
 
+/* ---- Partition, pass and compare: one byte that differs, at each position ---- */
+
+enum { LONGEST = 80, WORD = 8 };
+
+static _Alignas(WORD) uint8_t version_bytes[WORD + LONGEST], store_bytes[WORD + LONGEST];
+
+/* A match of so many bytes at an address of the store, after a new record where its offset in the version is not 0; the byte at which they differ, or
+ * the size where none does. No two bytes of the store are alike. */
+struct stretch {
+    uint32_t size, offset, address, differs;
+};
+
+/* Sets list, version and store, and gives the length of the list in bytes. */
+static size_t set_stretch(struct stretch t)
+{
+    size_t n = 0;
+    for (size_t i = 0; i < sizeof store_bytes; i++)
+        store_bytes[i] = (uint8_t)(37 * i);
+    memset(version_bytes, '-', t.offset);
+    memcpy(version_bytes + t.offset, store_bytes + t.address, t.size);
+    if (t.differs < t.size)
+        version_bytes[t.offset + t.differs] ^= (uint8_t)(1 << (t.offset + t.address) % 8);
+    if (t.offset > 0)
+        put_record(list, n++, KIND_NEW, t.offset, 0);
+    if (t.size > 0)
+        put_record(list, n++, KIND_MATCH, t.size, t.address);
+    return RECORD_BYTES * n;
+}
+
+/* 8 at the match's place; else the list comes back, as no match is worth storing at a 256th for an entry. */
+static int finds(call *made, struct stretch t)
+{
+    const size_t n = set_stretch(t);
+    const uint32_t records = (uint32_t)n / RECORD_BYTES;
+    const uint8_t bits[2] = { t.offset > 0, 0 };
+    fill_areas();
+    const uint32_t number = made(1, 1, 1, list, n, version_bytes, t.offset + t.size, store_bytes, sizeof store_bytes, choice, AREA, list_area, AREA,
+                                 block_area, AREA, answer, sizeof answer);
+    if (t.differs < t.size)
+        return refused(number, 8, t.offset > 0);
+    return answered(number, (struct values){ .cost = records + 256 * t.offset, .entries = records, .stored = t.offset, .looks = made == pass ? records : 0 })
+        && holds(choice, bits, records) && holds(list_area, list, n) && holds(block_area, version_bytes, t.offset) && holds(area, "", 0);
+}
+
+/* The second list stores the version in one new record. */
+static int tells(struct stretch t)
+{
+    const size_t n = set_stretch(t), whole = t.offset + t.size;
+    put_record(second, 0, KIND_NEW, (uint32_t)whole, 0);
+    fill_areas();
+    const uint32_t number = compare(list, n, second, whole > 0 ? RECORD_BYTES : 0, version_bytes, t.offset, version_bytes, whole, store_bytes,
+                                    sizeof store_bytes, answer, sizeof answer);
+    return answered(number, (struct values){ .entries = t.differs < t.size ? NO : YES }) && untouched();
+}
+
+/* Every size, every byte that differs and none, at every pair of places within a word; each of the eight bits of a byte is the one that differs. */
+static void test_stretches(void)
+{
+    char what[80];
+    for (uint32_t size = 0; size <= LONGEST; size++) {
+        int by_partition = 1, by_pass = 1, by_compare = 1;
+        for (uint32_t place = 0; place < WORD * WORD; place++)
+            for (uint32_t differs = 0; differs <= size; differs++) {
+                const struct stretch t = { size, place / WORD, place % WORD, differs };
+                by_partition &= finds(partition, t);
+                by_pass &= finds(pass, t);
+                by_compare &= tells(t);
+            }
+        snprintf(what, sizeof what, "a byte that differs in a match of %u", (unsigned)size);
+        expect("partition", what, by_partition);
+        expect("pass", what, by_pass);
+        expect("compare", what, by_compare);
+    }
+}
+
 /* ---- The greatest sizes ---- */
 
 static void *memory(size_t bytes)
@@ -793,6 +868,7 @@ int main(void)
     test_accepted();
     test_refused(partition, "partition");
     test_refused(pass, "pass");
+    test_stretches();
     test_greatest_lists();
     test_greatest_store();
     printf("calls: %d cases of %d, %d wrong\n", cases, CASES, wrong);

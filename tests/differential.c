@@ -13,8 +13,9 @@
  *   differential [seed]
  *
  * The same seed gives the same inputs. Exit 0 where nothing differs, each number of document 01, for each list of compare, and each kind of
- * price below was reached, yes of two different lists and no were each given in two pairs of five or more, and of neighbouring matches two in five
- * or more go on in the store and as many do not; else 1.
+ * price below was reached, matches of up to 80 bytes differed first at each of their bytes and at each pair of places within a word, yes of two
+ * different lists and no were each given in two pairs of five or more, and of neighbouring matches two in five or more go on in the store and as
+ * many do not; else 1.
  */
 #include <inttypes.h>
 #include <signal.h>
@@ -33,7 +34,7 @@ enum { MEASURE, REBUILD, CHECK, COMPARE, PARTITION, PASS, CALLS, SECOND_AT_FAULT
 static const char *const call_name[ROWS] = { "measure", "rebuild", "check", "compare", "partition", "pass", "  second" };
 
 /* How many of each case. */
-enum { SMALL_CASES = 1000000, MIDDLE_CASES = 8000, FULL_CASES = 60, BRUTE_RECORDS = 10 };
+enum { SMALL_CASES = 1000000, MIDDLE_CASES = 8000, FULL_CASES = 60, BRUTE_RECORDS = 10, STRETCH_CASES = 40 };
 
 /* ---- Chance ---- */
 
@@ -918,6 +919,14 @@ static void draw_second(struct input *in)
     }
 }
 
+/* The second list stores the version in one new record. */
+static void store_second(struct input *in)
+{
+    in->second_len = in->second_block_len = 0;
+    if (in->version_len > 0)
+        append_second_new(in, in->version_len, 0);
+}
+
 /* The last record of the second list loses a byte, or goes. */
 static void shorten_second(struct input *in)
 {
@@ -1228,6 +1237,51 @@ static void small_cases(void)
     }
 }
 
+/* The longest match of these cases, and the bytes that are compared together. */
+enum { LONGEST = 80, WORD = 8 };
+
+/* How often a match of a size differed from the version first at a byte; and at which places within a word, in version and store. */
+static uint64_t differed[LONGEST + 1][LONGEST], placed[WORD][WORD];
+
+/* A match after up to 7 new bytes, of which one byte differs, or none: then partition and pass give 8 at its place, and compare says no of it and a
+ * second list that stores the version; else they accept it, and compare says yes. */
+static void try_stretch(uint32_t size, uint32_t differs)
+{
+    const uint32_t fresh = below(WORD), letters = 1 + below(256), number = differs < size ? MISMATCH : ACCEPTED;
+    struct input in = empty_input(size + below(2 * WORD));
+    const uint32_t address = below(in.store_len - size + 1), place = differs < size && fresh > 0;
+    fill_letters(in.store, in.store_len, letters);
+    draw_price(&in);
+    if (fresh > 0)
+        append_new(&in, fresh, letters);
+    if (size > 0)
+        append_match(&in, size, address);
+    if (differs < size)
+        in.version[fresh + differs] ^= (uint8_t)(1u << below(8));
+    complete(&in);
+    store_second(&in);
+    try_input(&in);
+    for (int call = PARTITION; call <= PASS; call++)
+        if (given[call].number != number || given[call].place != place)
+            differ(call, "a match is judged otherwise than by its bytes", &in);
+    if (given[COMPARE].number != ACCEPTED || given[COMPARE].entries != (number == ACCEPTED ? YES : NO))
+        differ(COMPARE, "a match and the stored version are judged otherwise than by their bytes", &in);
+    if (number == MISMATCH) {
+        differed[size][differs]++;
+        placed[(uintptr_t)(in.version + fresh) % WORD][(uintptr_t)(in.store + address) % WORD]++;
+    }
+}
+
+/* Matches of 0 to 80 bytes, with each byte that can differ; in about half of them none does. */
+static void stretch_cases(void)
+{
+    case_kind = "stretch";
+    for (uint32_t size = 0; size <= LONGEST; size++)
+        for (uint32_t differs = 0; differs <= size; differs++)
+            for (int i = 0; i < STRETCH_CASES; i++)
+                try_stretch(size, one_in(2) ? size : differs);
+}
+
 static void middle_cases(void)
 {
     case_kind = "middle";
@@ -1444,6 +1498,24 @@ static int uneven_counts(void)
         + uneven(going_on, not_going_on, "neighbouring matches do not go on in the store about as often as they do");
 }
 
+/* How many sizes had a byte that never was the first to differ, or places within a word were never met. */
+static int missing_differences(void)
+{
+    int count = 0;
+    for (uint32_t size = 1; size <= LONGEST; size++)
+        for (uint32_t differs = 0; differs < size; differs++)
+            if (differed[size][differs] == 0) {
+                printf("differential: no match of %" PRIu32 " differed first at byte %" PRIu32 "\n", size, differs);
+                count++;
+            }
+    for (int place = 0; place < WORD * WORD; place++)
+        if (placed[place / WORD][place % WORD] == 0) {
+            printf("differential: no match differed at %d in the version and %d in the store, within a word\n", place / WORD, place % WORD);
+            count++;
+        }
+    return count;
+}
+
 /* How many required columns were never reached. */
 static int missing_columns(void)
 {
@@ -1472,6 +1544,7 @@ int main(int argc, char **argv)
     make_room();
     short_lists();
     small_cases();
+    stretch_cases();
     middle_cases();
     full_cases();
     list_lengths();
@@ -1490,7 +1563,7 @@ int main(int argc, char **argv)
         puts("differential: the long store was written to");
         return 1;
     }
-    if (missing_prices() + missing_columns() + uneven_counts() > 0)
+    if (missing_prices() + missing_columns() + missing_differences() + uneven_counts() > 0)
         return 1;
     printf("differential: %" PRIu64 " calls compared, 0 differences\n", calls);
     return 0;

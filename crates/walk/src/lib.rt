@@ -51,7 +51,7 @@ fn stop(fault: Fault, place: u32) -> Ruling
 pub fn same(a: &[u8], b: &[u8]) -> bool
     ensures { λ r. ⌜ r ≡ sameBytes (now (a .entry)) (now (b .entry)) ⌝ }
 {
-    check::same(a, b)
+    words::same(a, b)
 }
 
 // What the sizes may come to: the version's length, or the greatest length of one.

@@ -1,0 +1,2 @@
+pub mod WordLaw
+pub mod Stretches
