@@ -10,14 +10,6 @@ use lib.Seq.{drop-cons, length-take-le, getD-take, getD-drop, ext-getD}
 use borrow.Author.Tests.{eqb-true, eq-eqb}
 use Rattle.words.specs.Words.{wordOf, EightBytes, eightAt, AllEqual, WordLaw, Tells}
 
--- two numbers whose lowest bytes are x and y
-module _ (x y p q : ℕ) (hx : x < 256) (hy : y < 256) (e : x + 256 * p ≡ y + 256 * q) where
-  lowest-equal : x ≡ y
-  lowest-equal = omega arith
-
-  rest-equal : p ≡ q
-  rest-equal = omega arith
-
 abbrev Bytes : List ℕ → Type 0
 Bytes l = (k : ℕ) → k < length l → getD l k 0 < 256
 
@@ -29,10 +21,9 @@ bytes-of-word (x ∷ xs) [] bx by l e = absurd (omega arith)
 bytes-of-word (x ∷ xs) (y ∷ ys) bx by l e =
     let hx : x < 256 = bx 0 (omega arith) in
     let hy : y < 256 = by 0 (omega arith) in
-    rw (
-      lowest-equal x y (wordOf xs) (wordOf ys) hx hy e,
-      bytes-of-word xs ys (λ k h. bx (suc k) (omega arith)) (λ k h. by (suc k) (omega arith)) (omega arith) (rest-equal x y (wordOf xs) (wordOf ys) hx hy e),
-    )
+    let lowest : x ≡ y = omega arith in
+    let others : wordOf xs ≡ wordOf ys = omega arith in
+    rw (lowest, bytes-of-word xs ys (λ k h. bx (suc k) (omega arith)) (λ k h. by (suc k) (omega arith)) (omega arith) others)
 
 module _ {x y : List ℕ} (ex : EightBytes x) (ey : EightBytes y) where
   one-length : length x ≡ length y
