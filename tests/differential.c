@@ -13,7 +13,7 @@
  *   differential [seed]
  *
  * The same seed gives the same inputs. Exit 0 where nothing differs, each number of document 01, for each list of compare, and each kind of
- * price below was reached, matches of up to 80 bytes differed first at each of their bytes and at each pair of places within a word, yes of two
+ * price below was reached, matches of up to 80 bytes differed at each of their bytes alone and at each pair of places within a word, yes of two
  * different lists and no were each given in two pairs of five or more, and of neighbouring matches two in five or more go on in the store and as
  * many do not; else 1.
  */
@@ -1240,7 +1240,7 @@ static void small_cases(void)
 /* The longest match of these cases, and the bytes that are compared together. */
 enum { LONGEST = 80, WORD = 8 };
 
-/* How often a match of a size differed from the version first at a byte; and at which places within a word, in version and store. */
+/* How often a match of a size differed from the version at one byte alone; and at which places within a word, in version and store. */
 static uint64_t differed[LONGEST + 1][LONGEST], placed[WORD][WORD];
 
 /* A match after up to 7 new bytes, of which one byte differs, or none: then partition and pass give 8 at its place, and compare says no of it and a
@@ -1437,6 +1437,17 @@ static const char *const required[ROWS] = {
     "...xxxxx..x...",
 };
 
+static void print_differences(void)
+{
+    uint64_t all = 0, least = UINT64_MAX;
+    for (uint32_t size = 1; size <= LONGEST; size++)
+        for (uint32_t differs = 0; differs < size; differs++) {
+            all += differed[size][differs];
+            least = differed[size][differs] < least ? differed[size][differs] : least;
+        }
+    printf("matches of 1 to %d bytes that differ in one byte: %" PRIu64 "; of one size at one byte, %" PRIu64 " or more\n", LONGEST, all, least);
+}
+
 static void print_table(void)
 {
     printf("%-9s  %8s |", "call", "compared");
@@ -1454,6 +1465,7 @@ static void print_table(void)
     printf("neighbouring matches: %" PRIu64 " go on in the store, %" PRIu64 " do not\n", going_on, not_going_on);
     printf("compare: yes of two different lists %" PRIu64 ", of one and the same %" PRIu64 ", no %" PRIu64 "\n", yes_of_two_lists,
            yes_of_one_list, no);
+    print_differences();
     printf("partitions accepted");
     for (int i = 0; i < FACTORS; i++)
         printf("%s %" PRIu64 " at F %" PRIu32, i == 0 ? ":" : ",", factors[i].accepted, factors[i].f);
@@ -1498,14 +1510,14 @@ static int uneven_counts(void)
         + uneven(going_on, not_going_on, "neighbouring matches do not go on in the store about as often as they do");
 }
 
-/* How many sizes had a byte that never was the first to differ, or places within a word were never met. */
+/* How many sizes had a byte that never differed, and how many pairs of places within a word were never met. */
 static int missing_differences(void)
 {
     int count = 0;
     for (uint32_t size = 1; size <= LONGEST; size++)
         for (uint32_t differs = 0; differs < size; differs++)
             if (differed[size][differs] == 0) {
-                printf("differential: no match of %" PRIu32 " differed first at byte %" PRIu32 "\n", size, differs);
+                printf("differential: no match of %" PRIu32 " differed at byte %" PRIu32 "\n", size, differs);
                 count++;
             }
     for (int place = 0; place < WORD * WORD; place++)

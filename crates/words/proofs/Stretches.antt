@@ -26,21 +26,11 @@ module _ (a b : List ℕ) (i n m : ℕ) where
 
   pub both-tell : (t u : Bool) → i + n ≤ length a → i + n ≤ length b → Tells t (take n (drop i a)) (take n (drop i b)) → Tells u (take m (drop (i + n) a)) (take m (drop (i + n) b))
       → Tells (t && u) (take (n + m) (drop i a)) (take (n + m) (drop i b))
-  both-tell t u ha hb e f = (
-    λ h. rw (together a, together b, e .0 (front t u h), f .0 (behind t u h)),
-    λ h. all t u (e .1 (sym (first-of a) ∙ ap (take n) h ∙ first-of b)) (f .1 (sym (after a ha) ∙ ap (drop n) h ∙ after b hb)),
+  both-tell true u ha hb e f = (
+    λ h. rw (together a, together b, e .0 refl, f .0 h),
+    λ h. f .1 (sym (after a ha) ∙ ap (drop n) h ∙ after b hb),
   )
-    where
-      front : (t u : Bool) → t && u ≡ true → t ≡ true
-      front true u h = refl
-      front false u h = h
-
-      behind : (t u : Bool) → t && u ≡ true → u ≡ true
-      behind true u h = h
-      behind false u h = absurd (let z : _≡_ {A = ℕ} 0 1 = cc in omega arith)
-
-      all : (t u : Bool) → t ≡ true → u ≡ true → t && u ≡ true
-      all t u h g = rw (h, g)
+  both-tell false u ha hb e f = (λ h. absurd (let z : _≡_ {A = ℕ} 0 1 = cc in omega arith), λ h. e .1 (sym (first-of a) ∙ ap (take n) h ∙ first-of b))
 
 -- lists of one length whose first i elements are the same
 pub record Passed (a b : List ℕ) (i : ℕ) : Type 0 where
@@ -69,9 +59,6 @@ module _ {a b : List ℕ} {i : ℕ} (p : Passed a b i) where
     where
       all : (s : List ℕ) → take (length s - i) (drop i s) ≡ drop i s
       all s = take-all (length s - i) (drop i s) (simp length-drop (omega arith))
-
-  pub rest-even : length (take (length a - i) (drop i a)) ≡ length (take (length b - i) (drop i b))
-  rest-even = ap length (take-all (length a - i) (drop i a) (simp length-drop (omega arith))) ∙ simp length-drop (omega (arith, p .even)) ∙ sym (ap length (take-all (length b - i) (drop i b) (simp length-drop (omega arith))))
 
 -- lists of two lengths
 pub uneven : (a b : List ℕ) → (length a ≡ length b → ⊥) → Tells false a b

@@ -3,7 +3,7 @@ use Prim.Native.Nat.{_-_}
 use native.Mathlib.Omega.{arith}
 use lib.ListN.{length}
 use borrow.Author.Needs.{needs}
-use Rattle.words.proofs.Stretches.{Passed, started, stopped, went-on, ended, rest-even, uneven}
+use Rattle.words.proofs.Stretches.{Passed, started, stopped, went-on, ended, uneven}
 use Rattle.words.proofs.same.Statement.{statement}
 use Rattle.words.proofs.same.Tie as tie
 
@@ -56,7 +56,7 @@ part-same-words-end-2 : tie.Need-part-same-words-end-2 Inv-loop μ-loop
 part-same-words-end-2 c = omega arith
 
 same-words-requires : tie.Need-same-words-requires Inv-loop μ-loop
-same-words-requires c κs = search (needs, rest-even (c .before .before .before .loop .inv))
+same-words-requires c κs = search needs
 
 returns-3 : tie.Need-returns-3 Inv-loop μ-loop
 returns-3 c = ended (c .before .before .before .before .loop .inv) (c .same-words .ensures)
