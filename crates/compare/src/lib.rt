@@ -2,7 +2,7 @@
 //
 // In order: a cursor in a list, what is left of its record's part there, and the cursor some bytes further; two cursors side by side; the call.
 ghost use mathlib.Core.Path.{_≡_};
-ghost use Prim.Native.Nat.{_+_, _≤_, _<_, min};
+ghost use Prim.Native.Nat.{_+_, _≤_, _<_};
 ghost use mathlib.Core.List.{[], _∷_};
 ghost use Rattle.format.specs.Meaning.{sizeOf, stored, partOf};
 ghost use Rattle.show.specs.Show.{Lies};
@@ -60,16 +60,6 @@ fn advance(record: Record, at: Cursor, n: usize) -> Cursor
     }
 }
 
-// The shorter of two lengths.
-fn shorter(a: usize, b: usize) -> usize
-    ensures { λ r. ⌜ r ≡ min a b ⌝ }
-{
-    if a < b {
-        return a;
-    }
-    b
-}
-
 // Whether the version of the first list is a prefix of that of the second, which is no shorter.
 fn is_prefix<'a>(
     first: &[u8],
@@ -97,7 +87,7 @@ fn is_prefix<'a>(
         let b = format::record_at(second, y.place);
         let p = left_of(a, x, first_block, store);
         let q = left_of(b, y, second_block, store);
-        let k = shorter(p.len(), q.len());
+        let k = words::shorter(p.len(), q.len());
         if !walk::same(&p[0..k], &q[0..k]) {
             return false;
         }

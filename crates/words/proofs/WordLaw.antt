@@ -75,3 +75,7 @@ words-tell a b i ba bb ha hb =
       λ e. eq-of-all ex ey (word-law x y ex ey .0 (eqb-true _ _ e)),
       λ e. eq-eqb _ _ (word-law x y ex ey .1 (λ k lt. ap (λ (l : List ℕ). getD l k 0) e)),
     )
+
+-- whether two bytes are equal tells whether the lists of them alone are
+pub byte-tells : (a b : List ℕ) (i : ℕ) → i < length a → i < length b → Tells (eqb (getD a i 0) (getD b i 0)) (take 1 (drop i a)) (take 1 (drop i b))
+byte-tells a b i ha hb = rw (drop-cons a i 0 ha, drop-cons b i 0 hb) (λ e. rw (eqb-true (getD a i 0) (getD b i 0) e), λ e. eq-eqb _ _ (ap (λ (l : List ℕ). getD l 0 0) e))

@@ -1,9 +1,9 @@
 // Whether two stretches hold the same bytes, eight bytes together.
 //
-// In order: the word of eight bytes; two words; eight words of each side; the stretches.
-// Not here: what a match is compared with (crates `walk` and `compare`).
+// In order: one byte, one word of eight bytes; blocks of eight words; up to seven words, up to seven bytes; stretches.
+// Not here: which stretches are compared (crates `walk` and `compare`).
 ghost use mathlib.Core.Path.{_≡_};
-ghost use Prim.Native.Nat.{_+_, _≤_, _<_};
+ghost use Prim.Native.Nat.{_+_, _%_, _≤_, _<_, min};
 ghost use lib.ListN.{length, take, drop};
 ghost use Rattle.words.specs.Words.{wordOf, eightAt, Tells};
 
@@ -38,37 +38,91 @@ fn same_word(a: &[u8], b: &[u8], i: usize) -> bool
     word_at(a, i) == word_at(b, i)
 }
 
-// Whether the 64 bytes from i on are the same: eight words with no exit between them, so that the compiler takes them together.
-fn same_block(a: &[u8], b: &[u8], i: usize) -> bool
-    requires { ⌜ (i + 64 ≤ length (now a)) × (i + 64 ≤ length (now b)) ⌝ }
-    ensures { λ r. ⌜ Tells r (take 64 (drop i (now (a .entry)))) (take 64 (drop i (now (b .entry)))) ⌝ }
+// Whether the byte at i is the same.
+fn same_byte(a: &[u8], b: &[u8], i: usize) -> bool
+    requires { ⌜ (i < length (now a)) × (i < length (now b)) ⌝ }
+    ensures { λ r. ⌜ Tells r (take 1 (drop i (now (a .entry)))) (take 1 (drop i (now (b .entry)))) ⌝ }
+{
+    a[i] == b[i]
+}
+
+// Whether two blocks of 64 bytes are the same: eight words with no exit between them, so that the compiler takes them together.
+fn same_block(a: &[u8], b: &[u8]) -> bool
+    requires { ⌜ (length (now a) ≡ 64) × (length (now b) ≡ 64) ⌝ }
+    ensures { λ r. ⌜ Tells r (now (a .entry)) (now (b .entry)) ⌝ }
 {
     let mut all = true;
     let mut k = 0;
     while k < 8 {
-        let at = i + 8 * k;
+        let at = 8 * k;
         all = all & same_word(a, b, at);
         k += 1;
     }
     all
 }
 
-// Whether two stretches of one length hold the same bytes: by words where eight bytes remain, then by single bytes.
-fn same_words(a: &[u8], b: &[u8]) -> bool
-    requires { ⌜ length (now a) ≡ length (now b) ⌝ }
-    ensures { λ r. ⌜ Tells r (now (a .entry)) (now (b .entry)) ⌝ }
+// The shorter of two lengths.
+pub fn shorter(a: usize, b: usize) -> usize
+    ensures { λ r. ⌜ r ≡ min a b ⌝ }
 {
-    let mut i = 0;
-    while 8 <= a.len() - i {
-        if !same_word(a, b, i) {
-            return false;
-        }
-        i += 8;
+    if a < b {
+        return a;
     }
-    check::same(&a[i..], &b[i..])
+    b
 }
 
-// Whether two stretches hold the same bytes: by blocks of eight words, then by words and single bytes. Ends at the first block or word that differs.
+// Whether stretches of up to seven words are the same. Where there are fewer, the last is compared again: seven steps always are faster than a loop
+// whose end cannot be foreseen.
+fn same_words(a: &[u8], b: &[u8]) -> bool
+    requires { ⌜ (length (now a) ≡ length (now b)) × (length (now a) ≤ 56) × (length (now a) % 8 ≡ 0) ⌝ }
+    ensures { λ r. ⌜ Tells r (now (a .entry)) (now (b .entry)) ⌝ }
+{
+    if a.len() == 0 {
+        return true;
+    }
+    let last = a.len() - 8;
+    let mut all = true;
+    let mut k = 0;
+    while k < 7 {
+        let at = shorter(8 * k, last);
+        all = all & same_word(a, b, at);
+        k += 1;
+    }
+    all
+}
+
+// Whether stretches of up to seven bytes are the same, in seven steps too.
+fn same_bytes(a: &[u8], b: &[u8]) -> bool
+    requires { ⌜ (length (now a) ≡ length (now b)) × (length (now a) ≤ 7) ⌝ }
+    ensures { λ r. ⌜ Tells r (now (a .entry)) (now (b .entry)) ⌝ }
+{
+    if a.len() == 0 {
+        return true;
+    }
+    let last = a.len() - 1;
+    let mut all = true;
+    let mut k = 0;
+    while k < 7 {
+        let at = shorter(k, last);
+        all = all & same_byte(a, b, at);
+        k += 1;
+    }
+    all
+}
+
+// Whether stretches shorter than a block are the same: words where eight bytes remain, then single bytes.
+fn same_rest(a: &[u8], b: &[u8]) -> bool
+    requires { ⌜ (length (now a) ≡ length (now b)) × (length (now a) < 64) ⌝ }
+    ensures { λ r. ⌜ Tells r (now (a .entry)) (now (b .entry)) ⌝ }
+{
+    let i = 8 * (a.len() / 8);
+    if !same_words(&a[0..i], &b[0..i]) {
+        return false;
+    }
+    same_bytes(&a[i..], &b[i..])
+}
+
+// Whether two stretches hold the same bytes: block by block, then the rest. Ends at the first block that differs.
 pub fn same(a: &[u8], b: &[u8]) -> bool
     ensures { λ r. ⌜ Tells r (now (a .entry)) (now (b .entry)) ⌝ }
 {
@@ -77,10 +131,11 @@ pub fn same(a: &[u8], b: &[u8]) -> bool
     }
     let mut i = 0;
     while 64 <= a.len() - i {
-        if !same_block(a, b, i) {
+        let end = i + 64;
+        if !same_block(&a[i..end], &b[i..end]) {
             return false;
         }
-        i += 64;
+        i = end;
     }
-    same_words(&a[i..], &b[i..])
+    same_rest(&a[i..], &b[i..])
 }

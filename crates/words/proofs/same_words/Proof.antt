@@ -1,62 +1,53 @@
--- `words::same_words` meets its contract. Invariant: `Passed`, what is passed is the same. Measure: the bytes left. Assumes nothing.
-use Prim.Native.Nat.{_-_}
+-- `words::same_words` meets its contract. Invariant: `all` tells of the words so far, or of all. Measure: the steps left. Assumes nothing.
+use Prim.Native.Nat.{_+_, _*_, _-_, _≤_, min}
 use native.Mathlib.Omega.{arith}
-use lib.ListN.{length}
+use mathlib.Core.Path.{_≡_, refl}
+use lib.ListN.{length, take}
 use borrow.Author.Needs.{needs}
-use Rattle.words.proofs.Stretches.{Passed, started, stopped, went-on, ended}
+use Rattle.words.specs.Words.{Tells}
+use Rattle.words.proofs.Stretches.{step-tells, none-tell, all-tell}
 use Rattle.words.proofs.same_words.Statement.{statement}
 use Rattle.words.proofs.same_words.Tie as tie
 
 abbrev Inv-loop : tie.InvT-loop
-Inv-loop a b i₀ i = Passed a b i
+Inv-loop a b last all₀ k₀ all k = (k ≤ 7) × Tells all (take (min (8 * k) (length a)) a) (take (min (8 * k) (length a)) b)
 
 abbrev μ-loop : tie.MeasureT-loop
-μ-loop a b i₀ i = length a - i
+μ-loop a b last all₀ k₀ all k = 7 - k
+
+returns : tie.Need-returns Inv-loop μ-loop
+returns c = none-tell (c .before .before .before .args .a .now) (c .before .before .before .args .b .now) (c .if1 .taken) (omega arith)
+
+sub-last : tie.Need-sub-last Inv-loop μ-loop
+sub-last c = omega arith
 
 loop-holds : tie.Need-loop-holds Inv-loop μ-loop
-loop-holds c = started (c .before .before .args .a .now) (c .before .before .args .b .now) (search needs)
+loop-holds c = (omega arith, let e : min 0 (length (c .before .before .before .args .a .now)) ≡ 0 = omega arith in rw e (λ h. refl, λ h. refl))
 
-sub-loop : tie.Need-sub-loop Inv-loop μ-loop
-sub-loop c = omega arith
+mul-shorter : tie.Need-mul-shorter Inv-loop μ-loop
+mul-shorter c = omega arith
+
+shorter-requires : tie.Need-shorter-requires Inv-loop μ-loop
+shorter-requires c κs = search needs
 
 same-word-requires : tie.Need-same-word-requires Inv-loop μ-loop
 same-word-requires c κs = search needs
 
-returns : tie.Need-returns Inv-loop μ-loop
-returns c = stopped (c .before .before .before .loop .inv) 8 (c .before .same-word .ensures) (c .if1 .taken)
-
-add-i : tie.Need-add-i Inv-loop μ-loop
-add-i c = omega arith
+add-k : tie.Need-add-k Inv-loop μ-loop
+add-k c = omega arith
 
 loop-less : tie.Need-loop-less Inv-loop μ-loop
 loop-less c = omega arith
 
 loop-again : tie.Need-loop-again Inv-loop μ-loop
-loop-again c = went-on (c .before .before .before .loop .inv) 8 (omega arith) (c .before .same-word .ensures) (c .if1 .left)
-
-sub-same : tie.Need-sub-same Inv-loop μ-loop
-sub-same c = omega arith
-
-part-same-start : tie.Need-part-same-start Inv-loop μ-loop
-part-same-start c = omega arith
-
-part-same-end : tie.Need-part-same-end Inv-loop μ-loop
-part-same-end c = omega arith
-
-sub-same-2 : tie.Need-sub-same-2 Inv-loop μ-loop
-sub-same-2 c = omega arith
-
-part-same-start-2 : tie.Need-part-same-start-2 Inv-loop μ-loop
-part-same-start-2 c = omega arith
-
-part-same-end-2 : tie.Need-part-same-end-2 Inv-loop μ-loop
-part-same-end-2 c = omega arith
-
-same-requires : tie.Need-same-requires Inv-loop μ-loop
-same-requires c κs = search needs
+loop-again c = (
+  omega arith,
+  let e : 8 * (c .before .before .before .loop .k + 1) ≡ 8 * c .before .before .before .loop .k + 8 = omega arith in
+      rw e (step-tells (c .before .before .before .before .before .before .before .args .a .now) (c .before .before .before .before .before .before .before .args .b .now) 8 (8 * c .before .before .before .loop .k) (omega arith) (omega arith) (λ h. omega arith) (c .before .before .before .loop .all) (c .same-word .result) (c .before .before .before .loop .inv .1) (rw (c .before .shorter .ensures) at (c .same-word .ensures))),
+)
 
 returns-2 : tie.Need-returns-2 Inv-loop μ-loop
-returns-2 c = ended (c .before .before .before .before .loop .inv) (c .same .ensures)
+returns-2 c = all-tell (c .before .before .before .before .before .args .a .now) (c .before .before .before .before .before .args .b .now) (min (8 * c .before .loop .k) (length (c .before .before .before .before .before .args .a .now))) (omega arith) (omega arith) (c .before .loop .inv .1)
 
 pub same-words-spec : {M : Type 1} → statement M
 same-words-spec =
@@ -64,18 +55,13 @@ same-words-spec =
     (tie.spec
     Inv-loop
     μ-loop
-    loop-holds
-    sub-loop
-    same-word-requires
     returns
-    add-i
+    sub-last
+    loop-holds
+    mul-shorter
+    shorter-requires
+    same-word-requires
+    add-k
     loop-less
     loop-again
-    sub-same
-    part-same-start
-    part-same-end
-    sub-same-2
-    part-same-start-2
-    part-same-end-2
-    same-requires
     returns-2)
