@@ -11,7 +11,7 @@
 
 #include "controller.h"
 
-#define CASES 576
+#define CASES 744
 #define FILL 0xA5
 #define AREA 256
 
@@ -670,7 +670,7 @@ static void test_refused(call *made, const char *name)
 
 /* ---- Partition, pass and compare: one byte that differs, at each position ---- */
 
-enum { LONGEST = 80, WORD = 8 };
+enum { LONGEST = 136, WORD = 8 };
 
 static _Alignas(WORD) uint8_t version_bytes[WORD + LONGEST], store_bytes[WORD + LONGEST];
 

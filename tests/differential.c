@@ -13,9 +13,8 @@
  *   differential [seed]
  *
  * The same seed gives the same inputs. Exit 0 where nothing differs, each number of document 01, for each list of compare, and each kind of
- * price below was reached, matches of up to 80 bytes differed at each of their bytes alone and at each pair of places within a word, yes of two
- * different lists and no were each given in two pairs of five or more, and of neighbouring matches two in five or more go on in the store and as
- * many do not; else 1.
+ * price below was reached, a match differed in one byte at each pair of places within a word, yes of two different lists and no were each given in
+ * two pairs of five or more, and of neighbouring matches two in five or more go on in the store and as many do not; else 1.
  */
 #include <inttypes.h>
 #include <signal.h>
@@ -34,7 +33,7 @@ enum { MEASURE, REBUILD, CHECK, COMPARE, PARTITION, PASS, CALLS, SECOND_AT_FAULT
 static const char *const call_name[ROWS] = { "measure", "rebuild", "check", "compare", "partition", "pass", "  second" };
 
 /* How many of each case. */
-enum { SMALL_CASES = 1000000, MIDDLE_CASES = 8000, FULL_CASES = 60, BRUTE_RECORDS = 10, STRETCH_CASES = 40 };
+enum { SMALL_CASES = 1000000, MIDDLE_CASES = 8000, FULL_CASES = 60, BRUTE_RECORDS = 10, STRETCH_CASES = 14 };
 
 /* ---- Chance ---- */
 
@@ -1237,14 +1236,14 @@ static void small_cases(void)
     }
 }
 
-/* The longest match of these cases, and the bytes that are compared together. */
-enum { LONGEST = 80, WORD = 8 };
+/* The longest match of these cases, and the bytes of a word. */
+enum { LONGEST = 136, WORD = 8 };
 
-/* How often a match of a size differed from the version at one byte alone; and at which places within a word, in version and store. */
-static uint64_t differed[LONGEST + 1][LONGEST], placed[WORD][WORD];
+/* The matches that differ in one byte, by their places within a word in version and store. */
+static uint64_t differed[WORD][WORD];
 
-/* A match after up to 7 new bytes, of which one byte differs, or none: then partition and pass give 8 at its place, and compare says no of it and a
- * second list that stores the version; else they accept it, and compare says yes. */
+/* A match after up to 7 new bytes. Where one of its bytes differs, partition and pass give 8 at its place, and compare says no of the list and one
+ * that stores the version; where none does, they accept it, and compare says yes. */
 static void try_stretch(uint32_t size, uint32_t differs)
 {
     const uint32_t fresh = below(WORD), letters = 1 + below(256), number = differs < size ? MISMATCH : ACCEPTED;
@@ -1266,20 +1265,18 @@ static void try_stretch(uint32_t size, uint32_t differs)
             differ(call, "a match is judged otherwise than by its bytes", &in);
     if (given[COMPARE].number != ACCEPTED || given[COMPARE].entries != (number == ACCEPTED ? YES : NO))
         differ(COMPARE, "a match and the stored version are judged otherwise than by their bytes", &in);
-    if (number == MISMATCH) {
-        differed[size][differs]++;
-        placed[(uintptr_t)(in.version + fresh) % WORD][(uintptr_t)(in.store + address) % WORD]++;
-    }
+    if (number == MISMATCH)
+        differed[(uintptr_t)(in.version + fresh) % WORD][(uintptr_t)(in.store + address) % WORD]++;
 }
 
-/* Matches of 0 to 80 bytes, with each byte that can differ; in about half of them none does. */
+/* Matches of 0 to 136 bytes, with each byte that can differ; in every other case none does. */
 static void stretch_cases(void)
 {
     case_kind = "stretch";
     for (uint32_t size = 0; size <= LONGEST; size++)
         for (uint32_t differs = 0; differs <= size; differs++)
             for (int i = 0; i < STRETCH_CASES; i++)
-                try_stretch(size, one_in(2) ? size : differs);
+                try_stretch(size, i % 2 == 0 ? differs : size);
 }
 
 static void middle_cases(void)
@@ -1437,15 +1434,15 @@ static const char *const required[ROWS] = {
     "...xxxxx..x...",
 };
 
-static void print_differences(void)
+static void print_differed(void)
 {
-    uint64_t all = 0, least = UINT64_MAX;
-    for (uint32_t size = 1; size <= LONGEST; size++)
-        for (uint32_t differs = 0; differs < size; differs++) {
-            all += differed[size][differs];
-            least = differed[size][differs] < least ? differed[size][differs] : least;
-        }
-    printf("matches of 1 to %d bytes that differ in one byte: %" PRIu64 "; of one size at one byte, %" PRIu64 " or more\n", LONGEST, all, least);
+    uint64_t all = 0, fewest = UINT64_MAX;
+    for (int place = 0; place < WORD * WORD; place++) {
+        const uint64_t here = differed[place / WORD][place % WORD];
+        all += here;
+        fewest = here < fewest ? here : fewest;
+    }
+    printf("matches that differ in one byte: %" PRIu64 ", at each pair of places within a word %" PRIu64 " or more\n", all, fewest);
 }
 
 static void print_table(void)
@@ -1465,7 +1462,7 @@ static void print_table(void)
     printf("neighbouring matches: %" PRIu64 " go on in the store, %" PRIu64 " do not\n", going_on, not_going_on);
     printf("compare: yes of two different lists %" PRIu64 ", of one and the same %" PRIu64 ", no %" PRIu64 "\n", yes_of_two_lists,
            yes_of_one_list, no);
-    print_differences();
+    print_differed();
     printf("partitions accepted");
     for (int i = 0; i < FACTORS; i++)
         printf("%s %" PRIu64 " at F %" PRIu32, i == 0 ? ":" : ",", factors[i].accepted, factors[i].f);
@@ -1510,18 +1507,12 @@ static int uneven_counts(void)
         + uneven(going_on, not_going_on, "neighbouring matches do not go on in the store about as often as they do");
 }
 
-/* How many sizes had a byte that never differed, and how many pairs of places within a word were never met. */
-static int missing_differences(void)
+/* How many pairs of places within a word had no match that differs. */
+static int missing_places(void)
 {
     int count = 0;
-    for (uint32_t size = 1; size <= LONGEST; size++)
-        for (uint32_t differs = 0; differs < size; differs++)
-            if (differed[size][differs] == 0) {
-                printf("differential: no match of %" PRIu32 " differed at byte %" PRIu32 "\n", size, differs);
-                count++;
-            }
     for (int place = 0; place < WORD * WORD; place++)
-        if (placed[place / WORD][place % WORD] == 0) {
+        if (differed[place / WORD][place % WORD] == 0) {
             printf("differential: no match differed at %d in the version and %d in the store, within a word\n", place / WORD, place % WORD);
             count++;
         }
@@ -1575,7 +1566,7 @@ int main(int argc, char **argv)
         puts("differential: the long store was written to");
         return 1;
     }
-    if (missing_prices() + missing_columns() + missing_differences() + uneven_counts() > 0)
+    if (missing_prices() + missing_columns() + missing_places() + uneven_counts() > 0)
         return 1;
     printf("differential: %" PRIu64 " calls compared, 0 differences\n", calls);
     return 0;
