@@ -25,11 +25,13 @@ enum { EN = 12, EM = 16, F = 4 * 256 };
 
 enum kinds { MATCHES, NEWS, TURNS, RUNS };
 
-/* A list: so many records over so many bytes, all matches, all new (which is one record) or in turns; 0 bytes: small records, by chance or in runs. */
+/* A list: so many records over so many bytes, all matches, all new (which is one record) or in turns; 0 bytes: small records, by chance or in runs.
+ * The second list gives the same version, or one whose first byte differs. */
 struct shape {
     const char *name;
     uint32_t records, bytes;
     enum kinds kinds;
+    int differs;
 };
 
 /* One list with its version, store and stored block; a second list of that version, with its stored block; and the areas to write. */
@@ -140,6 +142,8 @@ static void set_input(const struct shape *shape)
         add(is_match, size, (shape->records - 1 - i) * size);
     }
     set_second();
+    if (shape->differs)
+        in.second_block[0] ^= 1;
 }
 
 static uint8_t *touched(size_t length)
@@ -280,15 +284,16 @@ static struct times time_call(int call, const struct shape *shape)
 
 /* ---- The tables ---- */
 
-static const struct shape few = { "16 MiB, 8 records", 8, VERSION_MOST, TURNS };
-static const struct shape many = { "16 MiB, 4,096 records", RECORDS_MOST, VERSION_MOST, TURNS };
-static const struct shape one_match = { "16 MiB, one match", 1, VERSION_MOST, MATCHES };
-static const struct shape one_new = { "16 MiB, one new record", 1, VERSION_MOST, NEWS };
-static const struct shape small = { "4,096 small records", RECORDS_MOST, 0, TURNS };
-static const struct shape runs = { "4,096 matches in runs", RECORDS_MOST, 0, RUNS };
-static const struct shape even = { "4,096 records of 48 bytes", RECORDS_MOST, 48 * RECORDS_MOST, TURNS };
-static const struct shape even_512 = { "512 records of 48 bytes", 512, 48 * 512, TURNS };
-static const struct shape few_1 = { "1 MiB, 8 records", 8, VERSION_MOST / 16, TURNS };
+static const struct shape few = { "16 MiB, 8 records", 8, VERSION_MOST, TURNS, 0 };
+static const struct shape unlike = { "16 MiB, first differs", 8, VERSION_MOST, TURNS, 1 };
+static const struct shape many = { "16 MiB, 4,096 records", RECORDS_MOST, VERSION_MOST, TURNS, 0 };
+static const struct shape one_match = { "16 MiB, one match", 1, VERSION_MOST, MATCHES, 0 };
+static const struct shape one_new = { "16 MiB, one new record", 1, VERSION_MOST, NEWS, 0 };
+static const struct shape small = { "4,096 small records", RECORDS_MOST, 0, TURNS, 0 };
+static const struct shape runs = { "4,096 matches in runs", RECORDS_MOST, 0, RUNS, 0 };
+static const struct shape even = { "4,096 records of 48 bytes", RECORDS_MOST, 48 * RECORDS_MOST, TURNS, 0 };
+static const struct shape even_512 = { "512 records of 48 bytes", 512, 48 * 512, TURNS, 0 };
+static const struct shape few_1 = { "1 MiB, 8 records", 8, VERSION_MOST / 16, TURNS, 0 };
 
 static void print_times(int call, const struct shape *shape)
 {
@@ -305,14 +310,22 @@ static void print_growth(int call, const struct shape *from, const struct shape 
     fflush(stdout);
 }
 
+/* The shapes, each with the first call and the last that it is timed for. */
+static const struct {
+    const struct shape *shape;
+    int first, last;
+} timed[] = {
+    { &few, MEASURE, PASS }, { &unlike, COMPARE, COMPARE }, { &many, MEASURE, PASS }, { &one_match, REBUILD, PASS },
+    { &one_new, REBUILD, PASS }, { &small, MEASURE, PASS }, { &runs, PARTITION, PASS },
+};
+
 static void print_all_times(void)
 {
-    const struct shape *const shapes[] = { &few, &many, &one_match, &one_new, &small, &runs };
     printf("%-10s %-23s %12s %12s %8s\n", "call", "input", "library us", "reference us", "ratio");
     for (int call = 0; call < CALLS; call++)
-        for (unsigned i = 0; i < sizeof shapes / sizeof *shapes; i++)
-            if (shapes[i] == &runs ? call >= PARTITION : call >= REBUILD || (shapes[i] != &one_match && shapes[i] != &one_new))
-                print_times(call, shapes[i]);
+        for (unsigned i = 0; i < sizeof timed / sizeof *timed; i++)
+            if (timed[i].first <= call && call <= timed[i].last)
+                print_times(call, timed[i].shape);
 }
 
 static void print_all_growth(void)
@@ -336,7 +349,7 @@ int main(int count, char **arguments)
     printf("Library and reference in turn, medians of 3 to %d samples; every buffer was written beforehand. EN %d, EM %d, F %d.\n"
            "Records in turns are new, match, new, match, of one size; small ones have 1 to 128 bytes, new or match by chance; of the matches in\n"
            "runs, of 1 to 48 bytes, half go on in the store. The second list of compare gives the same version, cut at other places: of a match\n"
-           "behind a new record, half is stored with that.\n\n",
+           "behind a new record, half is stored with that; once its first byte differs.\n\n",
            SAMPLES, EN, EM, F);
     print_all_times();
     print_all_growth();
