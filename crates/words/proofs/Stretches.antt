@@ -11,46 +11,57 @@ use lib.Seq.{drop-at, length-take-le, take-add, take-all, take-take}
 use borrow.Author.Tests.{ltb-true, ltb-false, not-true, not-false}
 use Rattle.words.specs.Words.{Tells}
 
--- n elements from i on, of which u tells
-module _ (a b : List ℕ) (i n : ℕ) (ha : i + n ≤ length a) (hb : i + n ≤ length b) (u : Bool) (f : Tells u (take n (drop i a)) (take n (drop i b))) where
+-- t tells whether the first n elements are the same
+abbrev pub TellsFirst : Bool → ℕ → List ℕ → List ℕ → Type 0
+TellsFirst t n a b = Tells t (take n a) (take n b)
+
+-- t tells whether the n elements from i on are the same
+abbrev TellsFrom : Bool → ℕ → ℕ → List ℕ → List ℕ → Type 0
+TellsFrom t i n a b = Tells t (take n (drop i a)) (take n (drop i b))
+
+-- u tells of the n elements from i on
+module _ (a b : List ℕ) (i n : ℕ) (ha : i + n ≤ length a) (hb : i + n ≤ length b) (u : Bool) (f : TellsFrom u i n a b) where
   piece : (s : List ℕ) → i + n ≤ length s → drop i (take (i + n) s) ≡ take n (drop i s)
   piece s h = rw (take-add i n s, drop-at (take i s) (take n (drop i s)) i (length-take-le i s (omega arith)))
+
+  same-piece : take (i + n) a ≡ take (i + n) b → u ≡ true
+  same-piece h = f .1 (sym (piece a ha) ∙ ap (drop i) h ∙ piece b hb)
 
   first : (s : List ℕ) → take i (take (i + n) s) ≡ take i s
   first s = take-take i (i + n) s (omega arith)
 
-  -- and t of those before them
-  pub next-tells : (t : Bool) → Tells t (take i a) (take i b) → Tells (t && u) (take (i + n) a) (take (i + n) b)
-  next-tells true e = (λ h. rw (take-add i n a, take-add i n b, e .0 refl, f .0 h), λ h. f .1 (sym (piece a ha) ∙ ap (drop i) h ∙ piece b hb))
+  -- t of those before them
+  pub next-tells : (t : Bool) → TellsFirst t i a b → TellsFirst (t && u) (i + n) a b
+  next-tells true e = (λ h. rw (take-add i n a, take-add i n b, e .0 refl, f .0 h), same-piece)
   next-tells false e = (λ h. absurd (let z : _≡_ {A = ℕ} 0 1 = cc in omega arith), λ h. e .1 (sym (first a) ∙ ap (take i) h ∙ first b))
 
-  -- and t of them too, with those before them
-  pub again-tells : (t : Bool) → Tells t (take (i + n) a) (take (i + n) b) → Tells (t && u) (take (i + n) a) (take (i + n) b)
-  again-tells true e = (λ h. e .0 refl, λ h. f .1 (sym (piece a ha) ∙ ap (drop i) h ∙ piece b hb))
+  -- t of those before them and of them too
+  again-tells : (t : Bool) → TellsFirst t (i + n) a b → TellsFirst (t && u) (i + n) a b
+  again-tells true e = (λ h. e .0 refl, same-piece)
   again-tells false e = e
 
--- lists of one length, in pieces of n: t tells of those before q, or of all where q is beyond the end, and u of the piece at q, or of the last one
-module _ (a b : List ℕ) (n q : ℕ) (even : length a ≡ length b) (some : n ≤ length a) (whole : q < length a → q + n ≤ length a) (t u : Bool) where
-  pub step-tells : Tells t (take (min q (length a)) a) (take (min q (length a)) b)
-      → Tells u (take n (drop (min q (length a - n)) a)) (take n (drop (min q (length a - n)) b))
-      → Tells (t && u) (take (min (q + n) (length a)) a) (take (min (q + n) (length a)) b)
-  step-tells = go (ltb q (length a)) refl
-    where
-      go : (d : Bool) → ltb q (length a) ≡ d → Tells t (take (min q (length a)) a) (take (min q (length a)) b)
-          → Tells u (take n (drop (min q (length a - n)) a)) (take n (drop (min q (length a - n)) b))
-          → Tells (t && u) (take (min (q + n) (length a)) a) (take (min (q + n) (length a)) b)
-      go true d e f =
-          let l : q + n ≤ length a = whole (ltb-true _ _ d) in
-          let x : min q (length a) ≡ q = omega arith in
-          let y : min q (length a - n) ≡ q = omega arith in
-          let z : min (q + n) (length a) ≡ q + n = omega arith in
-          rw z (next-tells a b q n l (omega arith) u (rw y at f) t (rw x at e))
-      go false d e f =
-          let l : length a ≤ q = ltb-false _ _ d in
-          let x : min q (length a) ≡ (length a - n) + n = omega arith in
-          let y : min q (length a - n) ≡ length a - n = omega arith in
-          let z : min (q + n) (length a) ≡ (length a - n) + n = omega arith in
-          rw z (again-tells a b (length a - n) n (omega arith) (omega arith) u (rw y at f) t (rw x at e))
+-- lists of one length, in pieces of n: t tells of those before q, or of all where q is at the end or beyond, and u of the piece at q, or of the last
+pub step-tells : (a b : List ℕ) (n q : ℕ) (t u : Bool) → length a ≡ length b → n ≤ length a → (q < length a → q + n ≤ length a)
+    → TellsFirst t (min q (length a)) a b → TellsFrom u (min q (length a - n)) n a b → TellsFirst (t && u) (min (q + n) (length a)) a b
+step-tells a b n q t u even some whole = go (ltb q (length a)) refl
+  where
+    go : (d : Bool) → ltb q (length a) ≡ d → TellsFirst t (min q (length a)) a b → TellsFrom u (min q (length a - n)) n a b → TellsFirst (t && u) (min (q + n) (length a)) a b
+    go true d e f =
+        let l : q + n ≤ length a = whole (ltb-true _ _ d) in
+        let x : min q (length a) ≡ q = omega arith in
+        let y : min q (length a - n) ≡ q = omega arith in
+        let z : min (q + n) (length a) ≡ q + n = omega arith in
+        rw z (next-tells a b q n l (omega arith) u (rw y at f) t (rw x at e))
+    go false d e f =
+        let l : length a ≤ q = ltb-false _ _ d in
+        let x : min q (length a) ≡ (length a - n) + n = omega arith in
+        let y : min q (length a - n) ≡ length a - n = omega arith in
+        let z : min (q + n) (length a) ≡ (length a - n) + n = omega arith in
+        rw z (again-tells a b (length a - n) n (omega arith) (omega arith) u (rw y at f) t (rw x at e))
+
+-- the first n are all
+pub all-tell : (a b : List ℕ) (n : ℕ) {t : Bool} → length a ≡ length b → length a ≤ n → TellsFirst t n a b → Tells t a b
+all-tell a b n e h f = rw (take-all n a h, take-all n b (omega arith)) at f
 
 -- lists of one length whose first i elements are the same
 pub record Passed (a b : List ℕ) (i : ℕ) : Type 0 where
@@ -63,11 +74,11 @@ started a b e = record { within = omega arith; even = e; same = refl }
 
 module _ {a b : List ℕ} {i : ℕ} (p : Passed a b i) where
   -- those up to j differ
-  pub stopped : (j : ℕ) {t : Bool} → Tells t (take (j - i) (drop i a)) (take (j - i) (drop i b)) → not t ≡ true → Tells false a b
+  pub stopped : (j : ℕ) {t : Bool} → TellsFrom t i (j - i) a b → not t ≡ true → Tells false a b
   stopped j {t} e f = (λ h. absurd (let z : _≡_ {A = ℕ} 0 1 = cc in omega arith), λ h. sym (not-true t f) ∙ e .1 (ap (λ (s : List ℕ). take (j - i) (drop i s)) h))
 
   -- those up to j are the same
-  pub went-on : (j : ℕ) {t : Bool} → i ≤ j → j ≤ length a → Tells t (take (j - i) (drop i a)) (take (j - i) (drop i b)) → not t ≡ false → Passed a b j
+  pub went-on : (j : ℕ) {t : Bool} → i ≤ j → j ≤ length a → TellsFrom t i (j - i) a b → not t ≡ false → Passed a b j
   went-on j {t} l h e f =
       let k : j ≡ i + (j - i) = omega arith in
       record { within = h; even = p .even; same = subst (λ (m : ℕ). take m a ≡ take m b) (sym k) (rw (take-add i (j - i) a, take-add i (j - i) b, p .same, e .0 (not-false t f))) }
@@ -85,11 +96,3 @@ module _ {a b : List ℕ} {i : ℕ} (p : Passed a b i) where
 -- lists of two lengths
 pub uneven : (a b : List ℕ) → (length a ≡ length b → ⊥) → Tells false a b
 uneven a b h = (λ e. absurd (let z : _≡_ {A = ℕ} 0 1 = cc in omega arith), λ e. absurd (h (ap length e)))
-
--- lists without elements
-pub none-tell : (a b : List ℕ) → length a ≡ 0 → length a ≡ length b → Tells true a b
-none-tell a b e f = (λ h. sym (take-all 0 a (omega arith)) ∙ take-all 0 b (omega arith), λ h. refl)
-
--- those before n are all
-pub all-tell : (a b : List ℕ) (n : ℕ) {t : Bool} → length a ≡ length b → length a ≤ n → Tells t (take n a) (take n b) → Tells t a b
-all-tell a b n e h f = rw (take-all n a h, take-all n b (omega arith)) at f

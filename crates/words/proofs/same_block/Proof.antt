@@ -1,16 +1,14 @@
 -- `words::same_block` meets its contract. Invariant: `all` tells of the words so far. Measure: the words left. Assumes nothing.
-use Prim.Native.Nat.{_+_, _*_, _-_, _≤_, min}
+use Prim.Native.Nat.{_+_, _*_, _-_, _≤_}
 use native.Mathlib.Omega.{arith}
 use mathlib.Core.Path.{_≡_, refl}
-use lib.ListN.{length, take}
 use borrow.Author.Needs.{needs}
-use Rattle.words.specs.Words.{Tells}
-use Rattle.words.proofs.Stretches.{next-tells, all-tell}
+use Rattle.words.proofs.Stretches.{TellsFirst, next-tells, all-tell}
 use Rattle.words.proofs.same_block.Statement.{statement}
 use Rattle.words.proofs.same_block.Tie as tie
 
 abbrev Inv-loop : tie.InvT-loop
-Inv-loop a b all₀ k₀ all k = (k ≤ 8) × Tells all (take (8 * k) a) (take (8 * k) b)
+Inv-loop a b all₀ k₀ all k = (k ≤ 8) × TellsFirst all (8 * k) a b
 
 abbrev μ-loop : tie.MeasureT-loop
 μ-loop a b all₀ k₀ all k = 8 - k

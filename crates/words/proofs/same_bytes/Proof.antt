@@ -1,22 +1,21 @@
 -- `words::same_bytes` meets its contract. Invariant: `all` tells of the bytes so far, or of all. Measure: the steps left. Assumes nothing.
-use Prim.Native.Nat.{_+_, _*_, _-_, _≤_, min}
+use Prim.Native.Nat.{_-_, _≤_, min}
 use native.Mathlib.Omega.{arith}
 use mathlib.Core.Path.{_≡_, refl}
-use lib.ListN.{length, take}
+use lib.ListN.{length}
 use borrow.Author.Needs.{needs}
-use Rattle.words.specs.Words.{Tells}
-use Rattle.words.proofs.Stretches.{step-tells, none-tell, all-tell}
+use Rattle.words.proofs.Stretches.{TellsFirst, step-tells, all-tell}
 use Rattle.words.proofs.same_bytes.Statement.{statement}
 use Rattle.words.proofs.same_bytes.Tie as tie
 
 abbrev Inv-loop : tie.InvT-loop
-Inv-loop a b last all₀ k₀ all k = (k ≤ 7) × Tells all (take (min k (length a)) a) (take (min k (length a)) b)
+Inv-loop a b last all₀ k₀ all k = (k ≤ 7) × TellsFirst all (min k (length a)) a b
 
 abbrev μ-loop : tie.MeasureT-loop
 μ-loop a b last all₀ k₀ all k = 7 - k
 
 returns : tie.Need-returns Inv-loop μ-loop
-returns c = none-tell (c .before .before .before .args .a .now) (c .before .before .before .args .b .now) (c .if1 .taken) (omega arith)
+returns c = all-tell (c .before .before .before .args .a .now) (c .before .before .before .args .b .now) 0 (omega arith) (omega arith) (λ h. refl, λ h. refl)
 
 sub-last : tie.Need-sub-last Inv-loop μ-loop
 sub-last c = omega arith
@@ -39,7 +38,7 @@ loop-less c = omega arith
 loop-again : tie.Need-loop-again Inv-loop μ-loop
 loop-again c = (
   omega arith,
-  step-tells (c .before .before .before .before .before .before .before .args .a .now) (c .before .before .before .before .before .before .before .args .b .now) 1 (c .before .before .before .loop .k) (omega arith) (omega arith) (λ h. omega arith) (c .before .before .before .loop .all) (c .same-byte .result) (c .before .before .before .loop .inv .1) (rw (c .before .shorter .ensures) at (c .same-byte .ensures)),
+  step-tells (c .before .before .before .before .before .before .before .args .a .now) (c .before .before .before .before .before .before .before .args .b .now) 1 (c .before .before .before .loop .k) (c .before .before .before .loop .all) (c .same-byte .result) (omega arith) (omega arith) (λ h. omega arith) (c .before .before .before .loop .inv .1) (rw (c .before .shorter .ensures) at (c .same-byte .ensures)),
 )
 
 returns-2 : tie.Need-returns-2 Inv-loop μ-loop
