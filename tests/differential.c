@@ -5,7 +5,8 @@
  * reference: the written list is the one its choice makes, it measures as the answer says and rebuilds the version, it comes
  * back from a second partition as it is, short lists are held against all their choices, a match that stands alone is stored exactly
  * where that costs less, and the pass is held to its bounds; two lists are said to give the same version exactly where rebuild makes the
- * same bytes of both, in either order, and a list gives the same version as itself and as what partition and pass wrote of it.
+ * same bytes of both, in either order, and a list gives the same version as itself and as what partition and pass wrote of it; a match is
+ * refused, and a list said to give another version, exactly where one of its bytes differs, whichever it is.
  *
  * In order: the calls; chance; the areas; fields; reports; one comparison; the laws; one case; valid inputs; second lists; damage; the
  * cases; the table. Not here: NULL for an empty area, which controller.h does not allow.

@@ -1,6 +1,6 @@
 // Whether two stretches hold the same bytes, eight bytes together.
 //
-// In order: one byte, one word of eight bytes; blocks of eight words; up to seven words, up to seven bytes; stretches.
+// In order: one word of eight bytes, one byte; blocks of eight words; up to seven words, up to seven bytes; stretches.
 // Not here: which stretches are compared (crates `walk` and `compare`).
 ghost use mathlib.Core.Path.{_≡_};
 ghost use Prim.Native.Nat.{_+_, _%_, _≤_, _<_, min};
