@@ -3,6 +3,7 @@
  * Lists are written as text: "N5 M19@0" is a new record of 5 bytes and a match of 19 at address 0. A record may be as wrong as a case
  * needs it: X is kind 2, N may have an address, and "!2" sets byte 2 to 7. Every area is longer than what a case lends of it and is
  * filled beforehand, and after the call it is looked at to its last byte: what the call should not write must still hold the filling.
+ * For each size up to 136 one case each of partition, pass and compare lets a match differ at every byte, at every pair of places within a word.
  * Exit 0 and one line, with the number of cases, where all is as it should be, else 1 and a line for each case that is not.
  */
 #include <stdio.h>
