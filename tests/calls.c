@@ -675,8 +675,8 @@ enum { LONGEST = 136, WORD = 8 };
 
 static _Alignas(WORD) uint8_t version_bytes[WORD + LONGEST], store_bytes[WORD + LONGEST];
 
-/* A match of so many bytes at an address of the store, after a new record where its offset in the version is not 0; the byte at which they differ, or
- * the size where none does. No two bytes of the store are alike. */
+/* A match of so many bytes at an address of the store, none where that is 0, after a new record where its offset in the version is not 0; the byte at
+ * which they differ, or the size where none does. No two bytes of the store are alike. */
 struct stretch {
     uint32_t size, offset, address, differs;
 };

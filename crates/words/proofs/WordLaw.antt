@@ -1,4 +1,4 @@
--- The law of words, and the word of the eight elements of a list from a place on.
+-- The law of words; and what two words, or two bytes, tell of the elements that they were read from.
 -- Assumes nothing.
 use Prim.Native.Nat.{ℕ, suc, _+_, _≤_, _<_}
 use native.Mathlib.Omega.{arith}

@@ -71,8 +71,8 @@ pub fn shorter(a: usize, b: usize) -> usize
     b
 }
 
-// Whether stretches of up to seven words are the same. Where there are fewer, the last is compared again: seven steps always are faster than a loop
-// whose end cannot be foreseen.
+// Whether stretches of up to seven words are the same. Where there are fewer, the last is compared again: on lengths at random seven steps took less
+// time than a loop that ends with the words.
 fn same_words(a: &[u8], b: &[u8]) -> bool
     requires { ⌜ (length (now a) ≡ length (now b)) × (length (now a) ≤ 56) × (length (now a) % 8 ≡ 0) ⌝ }
     ensures { λ r. ⌜ Tells r (now (a .entry)) (now (b .entry)) ⌝ }
