@@ -1,11 +1,12 @@
 -- The cost of a choice's list is a path's cost; so the least choice is the path that `pick` picks, and a list partitioned once stays as it is.
 -- Assumes nothing.
-use Prim.Native.Nat.{_+_, _≤_}
+use Prim.Native.Nat.{ℕ, _+_, _≤_}
 use native.Mathlib.Omega.{arith}
-use mathlib.Core.Path.{_≡_, refl, sym, _∙_, ap}
+use mathlib.Core.Path.{_≡_, refl, sym, _∙_, ap, ap₂}
 use mathlib.Core.Bool.{Bool, true, false, cond}
 use mathlib.Core.Logic.{inl, inr}
 use mathlib.Core.List.{List, [], _∷_}
+use Rattle.format.specs.declared.Source.{Source}
 use Rattle.format.specs.declared.Record.{Record}
 use Rattle.format.specs.declared.Record.the-variants.{New, Match}
 use Rattle.format.specs.Meaning.{sizeOf}
@@ -14,9 +15,9 @@ use Rattle.price.specs.Price.{cost}
 use Rattle.join.specs.declared.Open.the-variants.{No, One}
 use Rattle.join.specs.Join.{joins, grown, join, tidy}
 use Rattle.join.proofs.Joining.{joins-on, join-on, join-off, settled-tidy, tidy-settled}
-use Rattle.choice.specs.Choice.{Bit, keep, store, IsChoice, chosenRecord, chosen, listOf, costOf, least, Early, IsLeast, keepAll}
+use Rattle.choice.specs.Choice.{Bit, keep, store, only, either, freedom, May, IsChoice, chosenRecord, chosen, listOf, costOf, least, Early, IsLeast, keepAll}
 use Rattle.choice.specs.Path.{walk, best, pick, after, step, entryOf, bytesIn}
-use Rattle.choice.proofs.Path.{Beats, first, walk-pick, pick-is-first, pick-fits, pick-beats, pick-first, choices-cong, le-beats, early-antisym}
+use Rattle.choice.proofs.Path.{Beats, foremost, first, walk-pick, pick-is-first, pick-fits, pick-beats, pick-first, choices-cong, le-beats, early-antisym}
 use Rattle.choice.proofs.Unjoining.{lifted}
 
 module _ (rates : Rates) where
@@ -113,11 +114,26 @@ least-alone r rs c h =
 
 -- ---- a list partitioned once
 
+-- a match is kept where it may be, held or not
+match-kept : (s : ℕ) (a : Source) → foremost (freedom (Match s a)) ≡ keep
+match-kept s a = go (a .held)
+  where
+    go : (h : Bool) → foremost (cond h (only keep) either) ≡ keep
+    go true = refl
+    go false = refl
+
+pub match-may-keep : (s : ℕ) (a : Source) → May (freedom (Match s a)) keep
+match-may-keep s a = go (a .held)
+  where
+    go : (h : Bool) → May (cond h (only keep) either) keep
+    go true = refl
+    go false = tt
+
 -- the foremost choice leaves each record as it is
 chosen-first : (l : List Record) → chosen l (first l) ≡ l
 chosen-first [] = refl
 chosen-first (New s ∷ l) = ap (λ (k : List Record). New s ∷ k) (chosen-first l)
-chosen-first (Match s a ∷ l) = ap (λ (k : List Record). Match s a ∷ k) (chosen-first l)
+chosen-first (Match s a ∷ l) = ap₂ (λ (b : Bit) (k : List Record). chosenRecord b (Match s a) ∷ k) (match-kept s a) (chosen-first l)
 
 -- the list of a choice is the list of its own foremost choice
 first-list : (rs : List Record) (c : List Bit) → listOf (listOf rs c) (first (listOf rs c)) ≡ listOf rs c
@@ -150,7 +166,7 @@ again-list rates rs = rw again (first-list rs (least rates rs))
 first-keeps : (l : List Record) → first l ≡ keepAll l
 first-keeps [] = refl
 first-keeps (New s ∷ l) = ap (λ (c : List Bit). store ∷ c) (first-keeps l)
-first-keeps (Match s a ∷ l) = ap (λ (c : List Bit). keep ∷ c) (first-keeps l)
+first-keeps (Match s a ∷ l) = ap₂ (λ (b : Bit) (c : List Bit). b ∷ c) (match-kept s a) (first-keeps l)
 
 -- the least choice of a partitioned list keeps all its matches
 pub again-keeps : (rates : Rates) (rs : List Record) → least rates (listOf rs (least rates rs)) ≡ keepAll (listOf rs (least rates rs))
@@ -160,4 +176,4 @@ again-keeps rates rs = again rates rs ∙ first-keeps (listOf rs (least rates rs
 pub keepAll-is-choice : (l : List Record) → IsChoice l (keepAll l)
 keepAll-is-choice [] = tt
 keepAll-is-choice (New s ∷ l) = (refl, keepAll-is-choice l)
-keepAll-is-choice (Match s a ∷ l) = (tt, keepAll-is-choice l)
+keepAll-is-choice (Match s a ∷ l) = (match-may-keep s a, keepAll-is-choice l)

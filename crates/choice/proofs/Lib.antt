@@ -3,3 +3,4 @@ pub mod Unjoining
 pub mod Least
 pub mod Lists
 pub mod Scaling
+pub mod Holding

@@ -7,6 +7,7 @@ use mathlib.Core.Path.{_≡_, refl, _∙_, ap}
 use mathlib.Core.Bool.{false}
 use mathlib.Core.List.{List, [], _∷_, _++_}
 use lib.ListN.{length, drop}
+use Rattle.format.specs.declared.Source.{Source}
 use Rattle.format.specs.declared.Record.{Record}
 use Rattle.format.specs.declared.Record.the-variants.{New, Match}
 use Rattle.format.specs.Meaning.{sizeOf, whole}
@@ -50,7 +51,7 @@ bits-over n c area e = rw (← e) (bits-back c (drop (length (bitBytes c)) area)
 -- ---- kept records
 
 -- a kept match that does not join the next record does not join what a choice leaves of it
-pub kept-apart : (s a : ℕ) (rs : List Record) (c : List Bit) → joinsFirst (Match s a) rs ≡ false → join (Match s a) (listOf rs c) ≡ Match s a ∷ listOf rs c
+pub kept-apart : (s : ℕ) (a : Source) (rs : List Record) (c : List Bit) → joinsFirst (Match s a) rs ≡ false → join (Match s a) (listOf rs c) ≡ Match s a ∷ listOf rs c
 kept-apart s a [] c e = refl
 kept-apart s a (r ∷ rs) [] e = refl
 kept-apart s a (r ∷ rs) (keep ∷ c) e = join-off (Match s a) r (listOf rs c) e

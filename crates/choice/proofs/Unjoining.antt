@@ -10,8 +10,8 @@ use Rattle.format.specs.declared.Record.{Record}
 use Rattle.format.specs.declared.Record.the-variants.{New, Match}
 use Rattle.format.specs.Meaning.{sizeOf}
 use Rattle.join.specs.Join.{joins, grown, joinsFirst, join, tidy}
-use Rattle.join.proofs.Joining.{join-on}
-use Rattle.choice.specs.Choice.{Bit, keep, store, freedom, May, IsChoice, chosenRecord, chosen, listOf}
+use Rattle.join.proofs.Joining.{goes-on, join-on}
+use Rattle.choice.specs.Choice.{Bit, keep, store, only, either, freedom, May, IsChoice, chosenRecord, chosen, listOf}
 use Rattle.choice.specs.Alone.{isKept, firstKept, storesAlone}
 
 pub keep-store : {A : Type 0} → keep ≡ store → A
@@ -33,7 +33,7 @@ free-joins : (r q : Record) → joins r q ≡ true → freedom r ≡ freedom q
 free-joins (New s) (New t) e = refl
 free-joins (New s) (Match t b) e = cc
 free-joins (Match s a) (New t) e = cc
-free-joins (Match s a) (Match t b) e = refl
+free-joins (Match s a) (Match t b) e = ap (λ (h : Bool). cond h (only keep) either) (goes-on s a b e .marks)
 
 -- they join whether both are kept or both are stored
 joins-chosen : (b : Bit) (r q : Record) → joins r q ≡ true → joins (chosenRecord b r) (chosenRecord b q) ≡ true
@@ -94,9 +94,9 @@ chosen-again (r ∷ rs) (b ∷ c) [] h k = absurd k
 chosen-again (New s ∷ rs) (keep ∷ c) (d ∷ e) h k = keep-store (h .0)
 chosen-again (New s ∷ rs) (store ∷ c) (keep ∷ e) h k = keep-store (k .0)
 chosen-again (New s ∷ rs) (store ∷ c) (store ∷ e) h k = let i = chosen-again rs c e (h .1) (k .1) in ((refl, i .0), ap (λ (l : List Record). New s ∷ l) (i .1))
-chosen-again (Match s a ∷ rs) (keep ∷ c) (d ∷ e) h k = let i = chosen-again rs c e (h .1) (k .1) in ((tt, i .0), ap (λ (l : List Record). chosenRecord d (Match s a) ∷ l) (i .1))
+chosen-again (Match s a ∷ rs) (keep ∷ c) (d ∷ e) h k = let i = chosen-again rs c e (h .1) (k .1) in ((k .0, i .0), ap (λ (l : List Record). chosenRecord d (Match s a) ∷ l) (i .1))
 chosen-again (Match s a ∷ rs) (store ∷ c) (keep ∷ e) h k = keep-store (k .0)
-chosen-again (Match s a ∷ rs) (store ∷ c) (store ∷ e) h k = let i = chosen-again rs c e (h .1) (k .1) in ((tt, i .0), ap (λ (l : List Record). New s ∷ l) (i .1))
+chosen-again (Match s a ∷ rs) (store ∷ c) (store ∷ e) h k = let i = chosen-again rs c e (h .1) (k .1) in ((h .0, i .0), ap (λ (l : List Record). New s ∷ l) (i .1))
 
 -- a choice of the list of a choice, as a choice of the records
 pub lifted : (rs : List Record) (c : List Bit) → IsChoice rs c → (d : List Bit) → IsChoice (listOf rs c) d → (e : List Bit) × IsChoice rs e × (listOf rs e ≡ listOf (listOf rs c) d)

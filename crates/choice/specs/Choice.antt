@@ -1,4 +1,4 @@
--- Document 01, "A choice", with document 02, S-4: the choices for a list, the list of a choice, and the least choice.
+-- Document 01, "A choice", with document 02, S-4 and S-6: the choices for a list, the list of a choice, and the least choice.
 -- Assumes nothing.
 use Prim.Native.Nat.{ℕ, _+_, _≤_}
 use mathlib.Core.Path.{_≡_}
@@ -41,10 +41,10 @@ pub data Free : Type 0 where
   only : Bit → Free
   either : Free
 
--- a new record always has 1
+-- a new record always has 1; "a held match is always kept .. and only choices that keep all held matches are rivals"
 abbrev pub freedom : Record → Free
 freedom (New s) = only store
-freedom (Match s a) = either
+freedom (Match s a) = cond (a .held) (only keep) either
 
 abbrev pub May : Free → Bit → Type 0
 May (only b) d = d ≡ b

@@ -1,3 +1,4 @@
 pub mod Choice
 pub mod Path
 pub mod Alone
+pub mod Held

@@ -56,7 +56,7 @@ left-is (Match s a) c block st = refl
 
 length-part : (r : Record) (before : ℕ) (block st : List ℕ) → Lies (partOf before r) block st → length (bytesIn block st (partOf before r)) ≡ sizeOf r
 length-part (New s) before block st h = length-take-le s (drop before block) (omega (arith, h, length-drop before block))
-length-part (Match s a) before block st h = length-take-le s (drop a st) (omega (arith, h, length-drop a st))
+length-part (Match s a) before block st h = length-take-le s (drop (a .address) st) (omega (arith, h, length-drop (a .address) st))
 
 -- the part that a record stands for, lent back, is as long as the record
 pub length-lent : (part block st : RefT (List ℕ)) (r : Record) (before : ℕ) → Lies (partOf before r) (now block) (now st) → whereOf part ≡ lent block st (partOf before r)

@@ -16,7 +16,7 @@ use Rattle.compare.specs.declared.Cursor.{Cursor}
 -- the bytes of the cursor's record that are not yet passed
 abbrev pub left : Record → Cursor → List ℕ → List ℕ → List ℕ
 left (New s) c block st = drop (c .within) (take s (drop (c .before) block))
-left (Match s a) c block st = drop (c .within) (take s (drop a st))
+left (Match s a) c block st = drop (c .within) (take s (drop (a .address) st))
 
 -- n bytes further in its record
 abbrev pub further : Cursor → ℕ → Cursor

@@ -9,7 +9,7 @@ use Rattle.format.specs.declared.Record.the-variants.{New, Match}
 use Rattle.format.specs.declared.Answer.{Answer}
 use Rattle.format.specs.declared.Answer.the-variants.{Refused}
 use Rattle.format.specs.Refusal.{refuse}
-use Rattle.format.specs.Record.{encode}
+use Rattle.format.specs.Record.{freeAt, heldAt, encode}
 use Rattle.compare.specs.Compare.{saysYes, saysNo, compared}
 
 pub record Worked : Type 0 where
@@ -29,21 +29,23 @@ abbrev pub table : List Worked
 table =
     -- two empty lists; an empty one and one byte
     worked [] [] [] [] saysYes
-    ∷ worked [] [] (Match 1 0 ∷ []) [] saysNo
+    ∷ worked [] [] (Match 1 (freeAt 0) ∷ []) [] saysNo
     -- the same bytes, cut differently; from different places of the store; stored and drawn
-    ∷ worked (New 2 ∷ Match 3 2 ∷ []) (65 ∷ 66 ∷ []) (Match 3 0 ∷ New 2 ∷ []) (66 ∷ 67 ∷ []) saysYes
-    ∷ worked (Match 2 0 ∷ []) [] (Match 2 2 ∷ []) [] saysYes
-    ∷ worked (New 5 ∷ []) (65 ∷ 66 ∷ 65 ∷ 66 ∷ 67 ∷ []) (Match 5 0 ∷ []) [] saysYes
+    ∷ worked (New 2 ∷ Match 3 (freeAt 2) ∷ []) (65 ∷ 66 ∷ []) (Match 3 (freeAt 0) ∷ New 2 ∷ []) (66 ∷ 67 ∷ []) saysYes
+    ∷ worked (Match 2 (freeAt 0) ∷ []) [] (Match 2 (freeAt 2) ∷ []) [] saysYes
+    ∷ worked (New 5 ∷ []) (65 ∷ 66 ∷ 65 ∷ 66 ∷ 67 ∷ []) (Match 5 (freeAt 0) ∷ []) [] saysYes
+    -- a mark has no meaning
+    ∷ worked (Match 2 (heldAt 0) ∷ Match 3 (freeAt 2) ∷ []) [] (Match 2 (freeAt 2) ∷ Match 3 (heldAt 2) ∷ []) [] saysYes
     -- a difference in the last byte, stored and drawn
     ∷ worked (New 2 ∷ []) (65 ∷ 66 ∷ []) (New 2 ∷ []) (65 ∷ 67 ∷ []) saysNo
-    ∷ worked (Match 1 0 ∷ Match 1 1 ∷ []) [] (Match 1 0 ∷ Match 1 4 ∷ []) [] saysNo
+    ∷ worked (Match 1 (freeAt 0) ∷ Match 1 (freeAt 1) ∷ []) [] (Match 1 (freeAt 0) ∷ Match 1 (freeAt 4) ∷ []) [] saysNo
     -- one is a prefix of the other
-    ∷ worked (Match 4 0 ∷ []) [] (Match 5 0 ∷ []) [] saysNo
-    ∷ worked (Match 5 0 ∷ []) [] (Match 4 0 ∷ []) [] saysNo
+    ∷ worked (Match 4 (freeAt 0) ∷ []) [] (Match 5 (freeAt 0) ∷ []) [] saysNo
+    ∷ worked (Match 5 (freeAt 0) ∷ []) [] (Match 4 (freeAt 0) ∷ []) [] saysNo
     -- the first list's refusal stands, the second list's being 4 at 0; else the second list's, with its own place
-    ∷ worked (Match 2 0 ∷ Match 3 3 ∷ []) [] (New 0 ∷ []) [] (Refused (refuse OutsideStore 1))
+    ∷ worked (Match 2 (freeAt 0) ∷ Match 3 (freeAt 3) ∷ []) [] (New 0 ∷ []) [] (Refused (refuse OutsideStore 1))
     ∷ worked (New 1 ∷ []) [] (New 0 ∷ []) [] (Refused (refuse BlockLength 0))
-    ∷ worked (New 1 ∷ []) (65 ∷ []) (Match 1 0 ∷ New 0 ∷ []) [] (Refused (refuse Malformed 1))
+    ∷ worked (New 1 ∷ []) (65 ∷ []) (Match 1 (freeAt 0) ∷ New 0 ∷ []) [] (Refused (refuse Malformed 1))
     ∷ worked (New 1 ∷ []) (65 ∷ []) (New 1 ∷ New 1 ∷ []) (65 ∷ 66 ∷ []) (Refused (refuse Adjacent 1))
     ∷ worked (New 1 ∷ []) (65 ∷ []) (New 1 ∷ []) [] (Refused (refuse BlockLength 0))
     ∷ []

@@ -35,48 +35,48 @@ inBytes l c n m k = worked (price 10 10 256) l c (256 * n) (256 * m) k
 
 -- N1 M12 M60 M17 N1
 abbrev pub between : List Record
-between = New 1 ∷ Match 12 0 ∷ Match 60 50 ∷ Match 17 200 ∷ New 1 ∷ []
+between = New 1 ∷ Match 12 (freeAt 0) ∷ Match 60 (freeAt 50) ∷ Match 17 (freeAt 200) ∷ New 1 ∷ []
 
 -- M20 M4 M20
 abbrev pub lone : List Record
-lone = Match 20 0 ∷ Match 4 50 ∷ Match 20 90 ∷ []
+lone = Match 20 (freeAt 0) ∷ Match 4 (freeAt 50) ∷ Match 20 (freeAt 90) ∷ []
 
 -- N5 M14 M14 N5, the second match at an address
 abbrev pub parts : ℕ → List Record
-parts a = New 5 ∷ Match 14 0 ∷ Match 14 a ∷ New 5 ∷ []
+parts a = New 5 ∷ Match 14 (freeAt 0) ∷ Match 14 (freeAt a) ∷ New 5 ∷ []
 
 -- M20 M4 M20, each match going on where the one before it ended
 abbrev pub running : List Record
-running = Match 20 0 ∷ Match 4 20 ∷ Match 20 24 ∷ []
+running = Match 20 (freeAt 0) ∷ Match 4 (freeAt 20) ∷ Match 20 (freeAt 24) ∷ []
 
 -- M20 N5 M20, the second match going on where the first ended, but for a new record between them
 abbrev pub cutRun : List Record
-cutRun = Match 20 0 ∷ New 5 ∷ Match 20 20 ∷ []
+cutRun = Match 20 (freeAt 0) ∷ New 5 ∷ Match 20 (freeAt 20) ∷ []
 
 -- M8 M2 N1 M1, the second match going on where the first ended
 abbrev pub tied : List Record
-tied = Match 8 0 ∷ Match 2 8 ∷ New 1 ∷ Match 1 50 ∷ []
+tied = Match 8 (freeAt 0) ∷ Match 2 (freeAt 8) ∷ New 1 ∷ Match 1 (freeAt 50) ∷ []
 
 -- no match of the sheets goes on in the store where the one before it ended
 abbrev pub table : List Worked
 table =
     inBytes [] [] 0 0 0
-    ∷ inBytes (Match 1 0 ∷ []) (keep ∷ []) 10 10 1
-    ∷ inBytes (New 5 ∷ Match 19 0 ∷ New 5 ∷ []) (store ∷ store ∷ store ∷ []) 39 39 2
-    ∷ inBytes (New 5 ∷ Match 20 0 ∷ New 5 ∷ []) (store ∷ keep ∷ store ∷ []) 40 40 3
-    ∷ inBytes (New 5 ∷ Match 19 0 ∷ Match 19 50 ∷ New 5 ∷ []) (store ∷ keep ∷ keep ∷ store ∷ []) 50 50 4
-    ∷ inBytes (New 1 ∷ Match 9 0 ∷ []) (store ∷ store ∷ []) 20 20 2
-    ∷ inBytes (New 1 ∷ Match 10 0 ∷ []) (store ∷ keep ∷ []) 21 21 2
-    ∷ inBytes (Match 4 0 ∷ Match 4 50 ∷ Match 4 90 ∷ []) (store ∷ store ∷ store ∷ []) 22 22 4
-    ∷ inBytes (Match 6 0 ∷ Match 6 50 ∷ Match 6 90 ∷ []) (store ∷ store ∷ store ∷ []) 28 30 3
-    ∷ inBytes (Match 10 0 ∷ Match 4 50 ∷ Match 4 90 ∷ []) (keep ∷ store ∷ store ∷ []) 28 28 4
+    ∷ inBytes (Match 1 (freeAt 0) ∷ []) (keep ∷ []) 10 10 1
+    ∷ inBytes (New 5 ∷ Match 19 (freeAt 0) ∷ New 5 ∷ []) (store ∷ store ∷ store ∷ []) 39 39 2
+    ∷ inBytes (New 5 ∷ Match 20 (freeAt 0) ∷ New 5 ∷ []) (store ∷ keep ∷ store ∷ []) 40 40 3
+    ∷ inBytes (New 5 ∷ Match 19 (freeAt 0) ∷ Match 19 (freeAt 50) ∷ New 5 ∷ []) (store ∷ keep ∷ keep ∷ store ∷ []) 50 50 4
+    ∷ inBytes (New 1 ∷ Match 9 (freeAt 0) ∷ []) (store ∷ store ∷ []) 20 20 2
+    ∷ inBytes (New 1 ∷ Match 10 (freeAt 0) ∷ []) (store ∷ keep ∷ []) 21 21 2
+    ∷ inBytes (Match 4 (freeAt 0) ∷ Match 4 (freeAt 50) ∷ Match 4 (freeAt 90) ∷ []) (store ∷ store ∷ store ∷ []) 22 22 4
+    ∷ inBytes (Match 6 (freeAt 0) ∷ Match 6 (freeAt 50) ∷ Match 6 (freeAt 90) ∷ []) (store ∷ store ∷ store ∷ []) 28 30 3
+    ∷ inBytes (Match 10 (freeAt 0) ∷ Match 4 (freeAt 50) ∷ Match 4 (freeAt 90) ∷ []) (keep ∷ store ∷ store ∷ []) 28 28 4
     ∷ worked (price 10 10 256) between (store ∷ keep ∷ keep ∷ keep ∷ store ∷ []) 13312 13312 5
     ∷ worked (price 10 10 384) between (store ∷ store ∷ keep ∷ keep ∷ store ∷ []) 18944 18944 5
     ∷ worked (price 10 10 512) between (store ∷ store ∷ keep ∷ store ∷ store ∷ []) 23296 23296 6
     ∷ worked (price 1 10 256) lone (keep ∷ store ∷ keep ∷ []) 6400 7680 3
-    ∷ worked (price 10 1 256) (New 5 ∷ Match 19 0 ∷ New 5 ∷ []) (store ∷ keep ∷ store ∷ []) 7936 7936 3
-    ∷ worked (price 1 10 256) (Match 6 0 ∷ Match 6 50 ∷ Match 6 90 ∷ []) (store ∷ store ∷ store ∷ []) 4864 4864 4
-    ∷ worked (price 12 10 256) (Match 4 0 ∷ Match 4 50 ∷ Match 4 90 ∷ []) (store ∷ store ∷ store ∷ []) 6144 7680 3
+    ∷ worked (price 10 1 256) (New 5 ∷ Match 19 (freeAt 0) ∷ New 5 ∷ []) (store ∷ keep ∷ store ∷ []) 7936 7936 3
+    ∷ worked (price 1 10 256) (Match 6 (freeAt 0) ∷ Match 6 (freeAt 50) ∷ Match 6 (freeAt 90) ∷ []) (store ∷ store ∷ store ∷ []) 4864 4864 4
+    ∷ worked (price 12 10 256) (Match 4 (freeAt 0) ∷ Match 4 (freeAt 50) ∷ Match 4 (freeAt 90) ∷ []) (store ∷ store ∷ store ∷ []) 6144 7680 3
     -- a run is kept whose parts, where they do not go on, are stored
     ∷ inBytes (parts 14) (store ∷ keep ∷ keep ∷ store ∷ []) 40 40 3
     ∷ inBytes (parts 50) (store ∷ store ∷ store ∷ store ∷ []) 48 50 4
@@ -112,13 +112,13 @@ making l c m n = record { list = l; choice = c; made = m; cost = n }
 -- costs in disk bytes, times 256; the middle of a run is stored for two entries and its 4 bytes, and the last two rows are the tie
 abbrev pub makings : List Making
 makings =
-    making (parts 14) (store ∷ keep ∷ keep ∷ store ∷ []) (New 5 ∷ Match 28 0 ∷ New 5 ∷ []) (256 * 40)
+    making (parts 14) (store ∷ keep ∷ keep ∷ store ∷ []) (New 5 ∷ Match 28 (freeAt 0) ∷ New 5 ∷ []) (256 * 40)
     ∷ making (parts 50) (store ∷ keep ∷ keep ∷ store ∷ []) (parts 50) (256 * 50)
-    ∷ making running (keep ∷ keep ∷ keep ∷ []) (Match 44 0 ∷ []) (256 * 10)
-    ∷ making running (keep ∷ store ∷ keep ∷ []) (Match 20 0 ∷ New 4 ∷ Match 20 24 ∷ []) (256 * 34)
-    ∷ making running (store ∷ store ∷ keep ∷ []) (New 24 ∷ Match 20 24 ∷ []) (256 * 44)
+    ∷ making running (keep ∷ keep ∷ keep ∷ []) (Match 44 (freeAt 0) ∷ []) (256 * 10)
+    ∷ making running (keep ∷ store ∷ keep ∷ []) (Match 20 (freeAt 0) ∷ New 4 ∷ Match 20 (freeAt 24) ∷ []) (256 * 34)
+    ∷ making running (store ∷ store ∷ keep ∷ []) (New 24 ∷ Match 20 (freeAt 24) ∷ []) (256 * 44)
     ∷ making cutRun (keep ∷ store ∷ keep ∷ []) cutRun (256 * 35)
-    ∷ making tied (keep ∷ keep ∷ store ∷ store ∷ []) (Match 10 0 ∷ New 2 ∷ []) (256 * 22)
+    ∷ making tied (keep ∷ keep ∷ store ∷ store ∷ []) (Match 10 (freeAt 0) ∷ New 2 ∷ []) (256 * 22)
     ∷ making tied (store ∷ store ∷ store ∷ store ∷ []) (New 12 ∷ []) (256 * 22)
     ∷ []
 

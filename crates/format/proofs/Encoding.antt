@@ -4,7 +4,7 @@ use Prim.Native.Nat.{ℕ, zero, suc, _+_, _*_, _/_, _%_, _≤_, _<_}
 use native.Mathlib.Omega.{arith}
 use native.Mathlib.Nat.{pos-of-ne-zero}
 use native.Mathlib.Numerals.{add-one}
-use mathlib.Core.Path.{_≡_, refl, sym, _∙_, ap}
+use mathlib.Core.Path.{_≡_, refl, sym, _∙_, ap, ap₂}
 use mathlib.Core.Bool.{Bool, true, false, cond}
 use mathlib.Core.List.{List, [], _∷_, _++_, append-assoc}
 use lib.Dec.{eqb, leb}
@@ -14,7 +14,7 @@ use borrow.Author.Tests.{eqb-true, eqb-false, eq-eqb, le-leb}
 use Rattle.format.specs.declared.Row.{Row}
 use Rattle.format.specs.declared.Record.{Record}
 use Rattle.format.specs.declared.Record.the-variants.{New, Match}
-use Rattle.format.specs.Record.{wordAt, rowAt, from, rowsOf, isNew, recordOf, records, recordsOf, wellFormed, listFits, word, bytesOf, encode}
+use Rattle.format.specs.Record.{wordAt, rowAt, from, rowsOf, isNew, sourceOf, recordOf, records, recordsOf, wellFormed, listFits, word, markByte, bytesOf, encode}
 use Rattle.format.specs.Limits.{listMost}
 use Rattle.format.proofs.Rulings.{and-of-both}
 use Rattle.format.proofs.Rows.{Formed, formed-of-test}
@@ -36,7 +36,7 @@ encode-append (r ∷ x) y = ap (λ (l : List ℕ). bytesOf r ++ l) (encode-appen
 -- the row that a record is written as
 abbrev pub rowFor : Record → Row
 rowFor (New s) = record { kind = 0; byte1 = 0; byte2 = 0; byte3 = 0; size = s; address = 0 }
-rowFor (Match s a) = record { kind = 1; byte1 = 0; byte2 = 0; byte3 = 0; size = s; address = a }
+rowFor (Match s a) = record { kind = 1; byte1 = markByte (a .held); byte2 = 0; byte3 = 0; size = s; address = a .address }
 
 abbrev pub rowsFor : List Record → List Row
 rowsFor [] = []
@@ -47,7 +47,7 @@ word-back x = omega arith
 
 row-first : (r : Record) (t : List ℕ) → rowAt (bytesOf r ++ t) 0 ≡ rowFor r
 row-first (New s) t = rw (word-back s)
-row-first (Match s a) t = rw (word-back s, word-back a)
+row-first (Match s a) t = rw (word-back s, word-back (a .address))
 
 byte-after : (r : Record) (t : List ℕ) (i k : ℕ) → getD (bytesOf r ++ t) (12 * (i + 1) + k) 0 ≡ getD t (12 * i + k) 0
 byte-after r t i k =
@@ -86,10 +86,14 @@ rows-encode l =
     let e : length (encode l) / 12 ≡ length l = omega (arith, length-encode l) in
     ap (from (rowAt (encode l)) 0) e ∙ from-encode l
 
+mark-back : (h : Bool) → eqb (markByte h) 1 ≡ h
+mark-back true = refl
+mark-back false = refl
+
 records-rows : (l : List Record) → records (rowsFor l) ≡ l
 records-rows [] = refl
 records-rows (New s ∷ l) = ap (λ (k : List Record). New s ∷ k) (records-rows l)
-records-rows (Match s a ∷ l) = ap (λ (k : List Record). Match s a ∷ k) (records-rows l)
+records-rows (Match s a ∷ l) = ap₂ (λ (h : Bool) (k : List Record). Match s (record { address = a .address; held = h }) ∷ k) (mark-back (a .held)) (records-rows l)
 
 -- a written list is read as it was
 pub records-encode : (l : List Record) → recordsOf (encode l) ≡ l
@@ -136,6 +140,11 @@ twelve-bytes l at =
     take-add 4 8 (drop at l)
     ∙ ap (λ (x : List ℕ). take 4 (drop at l) ++ x) (take-add 4 4 (drop 4 (drop at l)) ∙ rw (drop-drop 4 4 (drop at l), drop-drop 4 at l, drop-drop 8 at l))
 
+mark-forth : (m : ℕ) → m ≤ 1 → markByte (eqb m 1) ≡ m
+mark-forth zero h = refl
+mark-forth (suc zero) h = refl
+mark-forth (suc (suc m)) h = absurd (omega arith)
+
 -- a read record is written as it was
 pub bytes-read : (l : List ℕ) (i : ℕ) → Bytes l → 12 * i + 12 ≤ length l → wellFormed (rowAt l i) ≡ true → bytesOf (recordOf (rowAt l i)) ≡ take 12 (drop (12 * i) l)
 bytes-read l i h k w =
@@ -147,14 +156,14 @@ bytes-read l i h k w =
     f = formed-of-test (rowAt l i) w
 
     go : (t : Bool) → isNew (rowAt l i) ≡ t
-        → bytesOf (cond t (New (wordAt l (12 * i + 4))) (Match (wordAt l (12 * i + 4)) (wordAt l (12 * i + 8))))
+        → bytesOf (cond t (New (wordAt l (12 * i + 4))) (Match (wordAt l (12 * i + 4)) (sourceOf (rowAt l i))))
         ≡ getD l (12 * i) 0 ∷ getD l (12 * i + 1) 0 ∷ getD l (12 * i + 2) 0 ∷ getD l (12 * i + 3) 0 ∷ (take 4 (drop (12 * i + 4) l) ++ take 4 (drop (12 * i + 8) l))
     go true e =
         let z : wordAt l (12 * i + 8) ≡ 0 = f .no-address e in
-        rw (eqb-true (getD l (12 * i) 0) 0 e, f .byte1-zero, f .byte2-zero, f .byte3-zero, ← word-of l (12 * i + 4) h (omega arith), ← word-of l (12 * i + 8) h (omega arith), z)
+        rw (eqb-true (getD l (12 * i) 0) 0 e, f .no-mark e, f .byte2-zero, f .byte3-zero, ← word-of l (12 * i + 4) h (omega arith), ← word-of l (12 * i + 8) h (omega arith), z)
     go false e =
         let one : getD l (12 * i) 0 ≡ 1 = omega (arith, f .kind-most, not-zero (eqb-false (getD l (12 * i) 0) 0 e)) in
-        rw (one, f .byte1-zero, f .byte2-zero, f .byte3-zero, ← word-of l (12 * i + 4) h (omega arith), ← word-of l (12 * i + 8) h (omega arith))
+        rw (one, mark-forth (getD l (12 * i + 1) 0) (f .byte1-most), f .byte2-zero, f .byte3-zero, ← word-of l (12 * i + 4) h (omega arith), ← word-of l (12 * i + 8) h (omega arith))
       where
         not-zero : (getD l (12 * i) 0 ≡ 0 → ⊥) → 0 < getD l (12 * i) 0
         not-zero n = pos-of-ne-zero n

@@ -2,3 +2,4 @@ pub mod Rulings
 pub mod Rows
 pub mod Rebuilding
 pub mod Encoding
+pub mod Unmarking

@@ -49,7 +49,7 @@ length-rebuilt [] b st h k = refl
 length-rebuilt (New s ∷ l) b st h k =
     rw (length-append, length-take-le s b (omega arith), length-rebuilt l (drop s b) st h (omega (arith, length-drop s b)))
 length-rebuilt (Match s a ∷ l) b st h k =
-    rw (length-append, length-take-le s (drop a st) (omega (arith, length-drop a st, h .0)), length-rebuilt l b st (h .1) k)
+    rw (length-append, length-take-le s (drop (a .address) st) (omega (arith, length-drop (a .address) st, h .0)), length-rebuilt l b st (h .1) k)
 
 -- the bytes of a part
 abbrev pub bytesIn : List ℕ → List ℕ → Part → List ℕ
@@ -64,14 +64,14 @@ rebuilt-cons (New s) l b st used =
     ap (λ (x : List ℕ). take s (drop used b) ++ rebuilt l x st) (drop-drop s used b ∙ ap (λ (k : ℕ). drop k b) e)
 rebuilt-cons (Match s a) l b st used =
     let e : used ≡ used + 0 = omega arith in
-    ap (λ (k : ℕ). take s (drop a st) ++ rebuilt l (drop k b) st) e
+    ap (λ (k : ℕ). take s (drop (a .address) st) ++ rebuilt l (drop k b) st) e
 
 -- what record k stands for is what stands at its offset in the version
 pub part-rebuilt : (l : List Record) (b st : List ℕ) (k : ℕ) → Inside st l → stored l ≤ length b → k < length l
     → take (sizeOf (getD l k (New 0))) (drop (offset l k) (rebuilt l b st)) ≡ bytesIn b st (partAt l k)
 part-rebuilt [] b st k h i j = absurd (omega arith)
 part-rebuilt (New s ∷ l) b st zero h i j = take-at (take s b) (rebuilt l (drop s b) st) s (length-take-le s b (omega arith))
-part-rebuilt (Match s a ∷ l) b st zero h i j = take-at (take s (drop a st)) (rebuilt l b st) s (length-take-le s (drop a st) (omega (arith, length-drop a st, h .0)))
+part-rebuilt (Match s a ∷ l) b st zero h i j = take-at (take s (drop (a .address) st)) (rebuilt l b st) s (length-take-le s (drop (a .address) st) (omega (arith, length-drop (a .address) st, h .0)))
 part-rebuilt (New s ∷ l) b st (suc k) h i j =
     ap (take (sizeOf (getD l k (New 0)))) (on (length-take-le s b (omega arith)))
     ∙ part-rebuilt l (drop s b) st k h (omega (arith, length-drop s b)) (omega arith)
@@ -84,8 +84,8 @@ part-rebuilt (New s ∷ l) b st (suc k) h i j =
     behind (New t) = ap (take t) (drop-drop (stored (take k l)) s b)
     behind (Match t a) = refl
 part-rebuilt (Match s a ∷ l) b st (suc k) h i j =
-    ap (take (sizeOf (getD l k (New 0)))) (on (length-take-le s (drop a st) (omega (arith, length-drop a st, h .0))))
+    ap (take (sizeOf (getD l k (New 0)))) (on (length-take-le s (drop (a .address) st) (omega (arith, length-drop (a .address) st, h .0))))
     ∙ part-rebuilt l b st k (h .1) i (omega arith)
   where
-    on : length (take s (drop a st)) ≡ s → drop (s + offset l k) (take s (drop a st) ++ rebuilt l b st) ≡ drop (offset l k) (rebuilt l b st)
-    on e = ap (λ (x : ℕ). drop (x + offset l k) (take s (drop a st) ++ rebuilt l b st)) (sym e) ∙ drop-append-add (take s (drop a st)) (rebuilt l b st) (offset l k)
+    on : length (take s (drop (a .address) st)) ≡ s → drop (s + offset l k) (take s (drop (a .address) st) ++ rebuilt l b st) ≡ drop (offset l k) (rebuilt l b st)
+    on e = ap (λ (x : ℕ). drop (x + offset l k) (take s (drop (a .address) st) ++ rebuilt l b st)) (sym e) ∙ drop-append-add (take s (drop (a .address) st)) (rebuilt l b st) (offset l k)

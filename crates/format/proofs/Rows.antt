@@ -4,16 +4,16 @@ use Prim.Native.Nat.{ℕ, zero, suc, _+_, _*_, _-_, _/_, _%_, _≤_, _<_}
 use native.Mathlib.Omega.{arith}
 use native.Mathlib.Nat.{div-add-mod, add-zero}
 use native.Mathlib.Numerals.{add-one}
-use mathlib.Core.Path.{_≡_, refl, sym, _∙_, ap}
+use mathlib.Core.Path.{_≡_, refl, sym, _∙_, ap, ap₂}
 use mathlib.Core.Bool.{Bool, true, false, not, _&&_, _||_, cond}
-use mathlib.Core.List.{List, [], _∷_}
+use mathlib.Core.List.{List, [], _∷_, _++_}
 use lib.Dec.{eqb, leb}
 use lib.ListN.{length, take, getD}
 use borrow.Author.Tests.{leb-true, eqb-true}
 use Rattle.format.specs.declared.Row.{Row}
 use Rattle.format.specs.declared.Record.{Record}
 use Rattle.format.specs.declared.Record.the-variants.{New, Match}
-use Rattle.format.specs.Record.{from, rowAt, isNew, recordOf, records, recordsOf, wellFormed, listFits, recordsFrom}
+use Rattle.format.specs.Record.{from, rowAt, isNew, sourceOf, recordOf, records, recordsOf, wellFormed, listFits, recordsFrom}
 use Rattle.format.specs.Limits.{listMost}
 use Rattle.format.specs.Meaning.{sizeOf, stored}
 use Rattle.format.proofs.Rulings.{both-of-and}
@@ -22,6 +22,13 @@ module _ {A : Type 0} (f : ℕ → A) where
   pub length-from : (i m : ℕ) → length (from f i m) ≡ m
   length-from i zero = refl
   length-from i (suc m) = ap suc (length-from (i + 1) m)
+
+  pub from-add : (i m n : ℕ) → from f i (m + n) ≡ from f i m ++ from f (i + m) n
+  from-add i zero n = let e : 0 + n ≡ n = omega arith in ap₂ (from f) (sym (add-zero i)) e
+  from-add i (suc m) n =
+      let e : suc m + n ≡ suc (m + n) = omega arith in
+      let k : i + 1 + m ≡ i + suc m = omega arith in
+      ap (from f i) e ∙ ap (λ (l : List A). f i ∷ l) (from-add (i + 1) m n ∙ ap (λ (j : ℕ). from f (i + 1) m ++ from f j n) k)
 
   pub from-next : (i n : ℕ) → i < n → from f i (n - i) ≡ f i ∷ from f (i + 1) (n - (i + 1))
   from-next i n h =
@@ -40,14 +47,14 @@ length-records (r ∷ rs) = ap suc (length-records rs)
 pub size-record : (r : Row) → sizeOf (recordOf r) ≡ r .size
 size-record r = go (isNew r)
   where
-    go : (t : Bool) → sizeOf (cond t (New (r .size)) (Match (r .size) (r .address))) ≡ r .size
+    go : (t : Bool) → sizeOf (cond t (New (r .size)) (Match (r .size) (sourceOf r))) ≡ r .size
     go true = refl
     go false = refl
 
 pub stored-record : (r : Row) (l : List Record) → stored (recordOf r ∷ l) ≡ cond (isNew r) (r .size) 0 + stored l
 stored-record r l = go (isNew r)
   where
-    go : (t : Bool) → stored (cond t (New (r .size)) (Match (r .size) (r .address)) ∷ l) ≡ cond t (r .size) 0 + stored l
+    go : (t : Bool) → stored (cond t (New (r .size)) (Match (r .size) (sourceOf r)) ∷ l) ≡ cond t (r .size) 0 + stored l
     go true = refl
     go false = omega arith
 
@@ -116,28 +123,31 @@ counted-of-fits l h =
 -- a row that passes check 4
 pub record Formed (r : Row) : Type 0 where
   pub kind-most : r .kind ≤ 1
-  pub byte1-zero : r .byte1 ≡ 0
+  pub byte1-most : r .byte1 ≤ 1
   pub byte2-zero : r .byte2 ≡ 0
   pub byte3-zero : r .byte3 ≡ 0
   pub size-least : 1 ≤ r .size
+  pub no-mark : isNew r ≡ true → r .byte1 ≡ 0
   pub no-address : isNew r ≡ true → r .address ≡ 0
 
 pub formed-of-test : (r : Row) → wellFormed r ≡ true → Formed r
 formed-of-test r e =
     let k : Bool = leb (r .kind) 1 in
-    let s : Bool = eqb (r .byte1) 0 in
+    let s : Bool = leb (r .byte1) 1 in
     let t : Bool = eqb (r .byte2) 0 in
     let f : Bool = eqb (r .byte3) 0 in
-    let a = both-of-and (k && s && t && f && leb 1 (r .size)) (not (isNew r) || eqb (r .address) 0) e in
+    let a = both-of-and (k && s && t && f && leb 1 (r .size)) (not (isNew r) || (eqb (r .byte1) 0 && eqb (r .address) 0)) e in
     let b = both-of-and (k && s && t && f) (leb 1 (r .size)) (a .0) in
     let c = both-of-and (k && s && t) f (b .0) in
     let d = both-of-and (k && s) t (c .0) in
     let g = both-of-and k s (d .0) in
+    let bare : isNew r ≡ true → (eqb (r .byte1) 0 ≡ true) × (eqb (r .address) 0 ≡ true) = λ n. both-of-and (eqb (r .byte1) 0) (eqb (r .address) 0) (rw n at (a .1)) in
     record {
       kind-most = leb-true (r .kind) 1 (g .0);
-      byte1-zero = eqb-true (r .byte1) 0 (g .1);
+      byte1-most = leb-true (r .byte1) 1 (g .1);
       byte2-zero = eqb-true (r .byte2) 0 (d .1);
       byte3-zero = eqb-true (r .byte3) 0 (c .1);
       size-least = leb-true 1 (r .size) (b .1);
-      no-address = λ n. eqb-true (r .address) 0 (rw n at (a .1));
+      no-mark = λ n. eqb-true (r .byte1) 0 (bare n .0);
+      no-address = λ n. eqb-true (r .address) 0 (bare n .1);
     }

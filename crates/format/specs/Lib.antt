@@ -3,3 +3,4 @@ pub mod Refusal
 pub mod Record
 pub mod Meaning
 pub mod WellFormed
+pub mod Marks

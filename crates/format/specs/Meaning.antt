@@ -36,7 +36,7 @@ blockOf (Match s a ∷ l) v = blockOf l (drop s v)
 abbrev pub rebuilt : List Record → List ℕ → List ℕ → List ℕ
 rebuilt [] b st = []
 rebuilt (New s ∷ l) b st = take s b ++ rebuilt l (drop s b) st
-rebuilt (Match s a ∷ l) b st = take s (drop a st) ++ rebuilt l b st
+rebuilt (Match s a ∷ l) b st = take s (drop (a .address) st) ++ rebuilt l b st
 
 -- a stretch of the stored block or of the store: where it begins, and its size
 pub data Part : Type 0 where
@@ -46,7 +46,7 @@ pub data Part : Type 0 where
 -- the part that a record stands for, where b stored bytes come before it
 abbrev pub partOf : ℕ → Record → Part
 partOf b (New s) = ofBlock b s
-partOf b (Match s a) = ofStore a s
+partOf b (Match s a) = ofStore (a .address) s
 
 -- the part that record k stands for
 abbrev pub partAt : List Record → ℕ → Part

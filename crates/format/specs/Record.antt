@@ -2,16 +2,18 @@
 --
 --   OFFSET  SIZE  FIELD
 --   0       1     kind: 0 new, 1 match
---   1       3     zero
+--   1       1     mark: 1 where a match is held, else zero; zero in a new record
+--   2       2     zero
 --   4       4     size: bytes covered, 1 or more, lowest byte first
 --   8       4     address: where a match begins in the store; zero in a new record
 -- Assumes nothing.
 use Prim.Native.Nat.{ℕ, zero, suc, _+_, _-_, _*_, _/_, _%_}
-use mathlib.Core.Bool.{Bool, not, _&&_, _||_, cond}
+use mathlib.Core.Bool.{Bool, true, false, not, _&&_, _||_, cond}
 use mathlib.Core.List.{List, [], _∷_, _++_}
 use lib.Dec.{eqb, leb}
 use lib.ListN.{length, getD}
 use Rattle.format.specs.declared.Row.{Row}
+use Rattle.format.specs.declared.Source.{Source}
 use Rattle.format.specs.declared.Record.{Record}
 use Rattle.format.specs.declared.Record.the-variants.{New, Match}
 use Rattle.format.specs.Limits.{listMost}
@@ -32,6 +34,13 @@ rowAt l i =
       address = wordAt l (12 * i + 8);
     }
 
+-- an address of the store, not held; and held
+abbrev pub freeAt : ℕ → Source
+freeAt a = record { address = a; held = false }
+
+abbrev pub heldAt : ℕ → Source
+heldAt a = record { address = a; held = true }
+
 -- f i, f (i + 1), .. : m values
 abbrev pub from : {A : Type 0} → (ℕ → A) → ℕ → ℕ → List A
 from f i zero = []
@@ -43,9 +52,13 @@ rowsOf l = from (rowAt l) 0 (length l / 12)
 abbrev pub isNew : Row → Bool
 isNew r = eqb (r .kind) 0
 
+-- where a match is drawn from; "Byte 1 of a match may now be 1, held"
+abbrev pub sourceOf : Row → Source
+sourceOf r = record { address = r .address; held = eqb (r .byte1) 1 }
+
 -- the record that a row stands for (a new record is ADD in VCDIFF, a match COPY)
 abbrev pub recordOf : Row → Record
-recordOf r = cond (isNew r) (New (r .size)) (Match (r .size) (r .address))
+recordOf r = cond (isNew r) (New (r .size)) (Match (r .size) (sourceOf r))
 
 abbrev pub records : List Row → List Record
 records [] = []
@@ -58,9 +71,9 @@ recordsOf l = records (rowsOf l)
 abbrev pub recordsFrom : List ℕ → ℕ → ℕ → List Record
 recordsFrom list n i = records (from (rowAt list) i (n - i))
 
--- check 4 passes: kind 0 or 1, bytes 1 to 3 zero, a size, and no address in a new record
+-- check 4 passes: kind 0 or 1, byte 1 no more than 1, bytes 2 and 3 zero, a size, and neither mark nor address in a new record
 abbrev pub wellFormed : Row → Bool
-wellFormed r = leb (r .kind) 1 && eqb (r .byte1) 0 && eqb (r .byte2) 0 && eqb (r .byte3) 0 && leb 1 (r .size) && (not (isNew r) || eqb (r .address) 0)
+wellFormed r = leb (r .kind) 1 && leb (r .byte1) 1 && eqb (r .byte2) 0 && eqb (r .byte3) 0 && leb 1 (r .size) && (not (isNew r) || (eqb (r .byte1) 0 && eqb (r .address) 0))
 
 -- check 3 passes: a multiple of 12, and not over 49,152
 abbrev pub listFits : List ℕ → Bool
@@ -70,10 +83,14 @@ listFits l = leb (length l) listMost && eqb (length l % 12) 0
 abbrev pub word : ℕ → List ℕ
 word x = x % 256 ∷ x / 256 % 256 ∷ x / 65536 % 256 ∷ x / 16777216 ∷ []
 
--- the 12 bytes of a record
+-- byte 1 of a match
+abbrev pub markByte : Bool → ℕ
+markByte held = cond held 1 0
+
+-- the 12 bytes of a record; "the mark is written out"
 abbrev pub bytesOf : Record → List ℕ
 bytesOf (New s) = 0 ∷ 0 ∷ 0 ∷ 0 ∷ word s ++ word 0
-bytesOf (Match s a) = 1 ∷ 0 ∷ 0 ∷ 0 ∷ word s ++ word a
+bytesOf (Match s a) = 1 ∷ markByte (a .held) ∷ 0 ∷ 0 ∷ word s ++ word (a .address)
 
 -- the bytes of a list
 abbrev pub encode : List Record → List ℕ

@@ -30,13 +30,13 @@ Apart (Match s a ∷ l) = Apart l
 abbrev pub Inside : List ℕ → List Record → Type 0
 Inside st [] = Unit {0}
 Inside st (New s ∷ l) = Inside st l
-Inside st (Match s a ∷ l) = (a + s ≤ length st) × Inside st l
+Inside st (Match s a ∷ l) = (a .address + s ≤ length st) × Inside st l
 
 -- the sizes add up to the length of the version v, and a match's bytes in v equal those in the store st
 abbrev pub Agrees : List ℕ → List Record → List ℕ → Type 0
 Agrees st [] v = v ≡ []
 Agrees st (New s ∷ l) v = (s ≤ length v) × Agrees st l (drop s v)
-Agrees st (Match s a ∷ l) v = (s ≤ length v) × (a + s ≤ length st) × (take s v ≡ take s (drop a st)) × Agrees st l (drop s v)
+Agrees st (Match s a ∷ l) v = (s ≤ length v) × (a .address + s ≤ length st) × (take s v ≡ take s (drop (a .address) st)) × Agrees st l (drop s v)
 
 -- a list of the version v against the store st
 pub record WellFormed (st : List ℕ) (l : List Record) (v : List ℕ) : Type 0 where

@@ -60,10 +60,16 @@ pub struct Row {
     pub address: u32,
 }
 
-// A record: a new one of a size, or a match of a size at an address of the store.
+// Where a match is drawn from: an address of the store; and whether it is held, so that it must go on being drawn from there.
+pub struct Source {
+    pub address: u32,
+    pub held: bool,
+}
+
+// A record: a new one of a size, or a match of a size with its source.
 pub enum Record {
     New(u32),
-    Match(u32, u32),
+    Match(u32, Source),
 }
 
 // The number of a fault.
@@ -176,7 +182,11 @@ fn record_of(row: Row) -> Record
     if row.kind == 0 {
         return Record::New(row.size);
     }
-    Record::Match(row.size, row.address)
+    let source = Source {
+        address: row.address,
+        held: row.byte1 == 1,
+    };
+    Record::Match(row.size, source)
 }
 
 // Record i of a list.
@@ -204,7 +214,7 @@ pub fn well_formed(row: Row) -> bool
     if 1 < row.kind {
         return false;
     }
-    if row.byte1 != 0 {
+    if 1 < row.byte1 {
         return false;
     }
     if row.byte2 != 0 {
@@ -217,6 +227,9 @@ pub fn well_formed(row: Row) -> bool
         return false;
     }
     if row.kind == 0 {
+        if row.byte1 != 0 {
+            return false;
+        }
         return row.address == 0;
     }
     true

@@ -19,17 +19,17 @@ use Rattle.join.specs.Emit.{pending, openSize, flushed, opened, Emits}
 use Rattle.join.proofs.Joining.{size-grown, join-on, join-off}
 
 -- the open record before a list
-abbrev pub held : Open → List Record → List Record
-held No l = l
-held (One r) l = join r l
+abbrev pub ahead : Open → List Record → List Record
+ahead No l = l
+ahead (One r) l = join r l
 
-pub held-none : (o : Open) → held o [] ≡ pending o
-held-none No = refl
-held-none (One r) = refl
+pub ahead-none : (o : Open) → ahead o [] ≡ pending o
+ahead-none No = refl
+ahead-none (One r) = refl
 
-pub held-join : (o : Open) (r : Record) (l : List Record) → held o (join r l) ≡ flushed o r ++ held (opened o r) l
-held-join No r l = refl
-held-join (One q) r l = go (joins q r) refl
+pub ahead-join : (o : Open) (r : Record) (l : List Record) → ahead o (join r l) ≡ flushed o r ++ ahead (opened o r) l
+ahead-join No r l = refl
+ahead-join (One q) r l = go (joins q r) refl
   where
     go : (x : Bool) → joins q r ≡ x → join q (join r l) ≡ cond x [] (q ∷ []) ++ join (cond x (grown q (sizeOf r)) r) l
     go true e = join-on q r l e

@@ -5,17 +5,19 @@ use Prim.Native.Nat.{ℕ, _+_, _≤_}
 use native.Mathlib.Omega.{arith}
 use native.Mathlib.Nat.{add-assoc}
 use mathlib.Core.Path.{_≡_, refl, sym, _∙_, ap, ap₂}
-use mathlib.Core.Bool.{Bool, true, false, cond}
+use mathlib.Core.Bool.{Bool, true, false, _&&_, Bool·beq, cond}
 use mathlib.Core.List.{List, [], _∷_, _++_, append-assoc}
 use lib.Dec.{eqb}
 use lib.ListN.{length, take, drop, length-drop}
 use lib.Seq.{drop-drop, take-add}
 use borrow.Author.Tests.{eqb-true}
+use Rattle.format.specs.declared.Source.{Source}
 use Rattle.format.specs.declared.Record.{Record}
 use Rattle.format.specs.declared.Record.the-variants.{New, Match}
 use Rattle.format.specs.Meaning.{sizeOf, whole, blockOf}
 use Rattle.format.specs.WellFormed.{Sized, Apart, Agrees}
-use Rattle.join.specs.Join.{joins, grown, joinsFirst, join, tidy, Settled}
+use Rattle.format.proofs.Rulings.{both-of-and}
+use Rattle.join.specs.Join.{goesOn, joins, grown, joinsFirst, join, tidy, Settled}
 
 -- ---- two and three neighbours
 
@@ -34,6 +36,20 @@ joins-grown (New s) (Match u b) t = refl
 joins-grown (Match s a) (New u) t = refl
 joins-grown (Match s a) (Match u b) t = refl
 
+-- a match that goes on in another has its mark, and ends where it begins
+pub record GoesOn (s : ℕ) (a b : Source) : Type 0 where
+  pub marks : a .held ≡ b .held
+  pub ends : a .address + s ≡ b .address
+
+pub goes-on : (s : ℕ) (a b : Source) → goesOn s a b ≡ true → GoesOn s a b
+goes-on s a b e = let k = both-of-and (Bool·beq (a .held) (b .held)) (eqb (a .address + s) (b .address)) e in record { marks = same (a .held) (b .held) (k .0); ends = eqb-true (a .address + s) (b .address) (k .1) }
+  where
+    same : (x y : Bool) → Bool·beq x y ≡ true → x ≡ y
+    same true true e = refl
+    same true false e = sym e
+    same false true e = e
+    same false false e = refl
+
 -- two that joined go on as the second did
 pub joins-on : (r q p : Record) → joins r q ≡ true → joins (grown r (sizeOf q)) p ≡ joins q p
 joins-on (New s) (New t) (New u) e = refl
@@ -42,8 +58,9 @@ joins-on (New s) (Match t b) p e = cc
 joins-on (Match s a) (New t) p e = cc
 joins-on (Match s a) (Match t b) (New u) e = refl
 joins-on (Match s a) (Match t b) (Match u c) e =
-    let ends : a + (s + t) ≡ b + t = omega (arith, eqb-true (a + s) b e) in
-    ap (λ (n : ℕ). eqb n c) ends
+    let on = goes-on s a b e in
+    let ends : a .address + (s + t) ≡ b .address + t = omega (arith, on .ends) in
+    ap₂ (λ (h : Bool) (n : ℕ). Bool·beq h (c .held) && eqb n (c .address)) (on .marks) ends
 
 first-on : (r q : Record) (l : List Record) → joins r q ≡ true → joinsFirst (grown r (sizeOf q)) l ≡ joinsFirst q l
 first-on r q [] e = refl
@@ -111,7 +128,7 @@ apart-join (New s) (New t ∷ l) h = h
 apart-join (New s) (Match t b ∷ l) h = (tt, h)
 apart-join (Match s a) [] h = tt
 apart-join (Match s a) (New t ∷ l) h = h
-apart-join (Match s a) (Match t b ∷ l) h = go (eqb (a + s) b)
+apart-join (Match s a) (Match t b ∷ l) h = go (goesOn s a b)
   where
     go : (x : Bool) → Apart (cond x (Match (s + t) a ∷ l) (Match s a ∷ Match t b ∷ l))
     go true = h
@@ -128,12 +145,12 @@ agrees-join st (New s) (New t ∷ l) v h = (omega (arith, length-drop s v, h .0,
 agrees-join st (New s) (Match t b ∷ l) v h = h
 agrees-join st (Match s a) [] v h = h
 agrees-join st (Match s a) (New t ∷ l) v h = h
-agrees-join st (Match s a) (Match t b ∷ l) v h = go (eqb (a + s) b) refl
+agrees-join st (Match s a) (Match t b ∷ l) v h = go (goesOn s a b) refl
   where
-    go : (x : Bool) → eqb (a + s) b ≡ x → Agrees st (cond x (Match (s + t) a ∷ l) (Match s a ∷ Match t b ∷ l)) v
+    go : (x : Bool) → goesOn s a b ≡ x → Agrees st (cond x (Match (s + t) a ∷ l) (Match s a ∷ Match t b ∷ l)) v
     go true e =
-        let on : a + s ≡ b = eqb-true (a + s) b e in
-        (omega (arith, length-drop s v, h .0, h .3 .0), omega (arith, on, h .3 .1), agrees-on st v s a t b on (h .2) (h .3 .2), rw drop-drop at (h .3 .3))
+        let on = goes-on s a b e .ends in
+        (omega (arith, length-drop s v, h .0, h .3 .0), omega (arith, on, h .3 .1), agrees-on st v s (a .address) t (b .address) on (h .2) (h .3 .2), rw drop-drop at (h .3 .3))
     go false e = h
 
 pub block-join : (r : Record) (l : List Record) (v : List ℕ) → blockOf (join r l) v ≡ blockOf (r ∷ l) v
@@ -142,7 +159,7 @@ block-join (New s) (New t ∷ l) v = rw (take-add s t v, append-assoc, drop-drop
 block-join (New s) (Match t b ∷ l) v = refl
 block-join (Match s a) [] v = refl
 block-join (Match s a) (New t ∷ l) v = refl
-block-join (Match s a) (Match t b ∷ l) v = go (eqb (a + s) b)
+block-join (Match s a) (Match t b ∷ l) v = go (goesOn s a b)
   where
     go : (x : Bool) → blockOf (cond x (Match (s + t) a ∷ l) (Match s a ∷ Match t b ∷ l)) v ≡ blockOf l (drop t (drop s v))
     go true = rw (drop-drop t s v)

@@ -1,4 +1,4 @@
--- Writing a list record by record, with one held open.
+-- Writing a list record by record, with one left open.
 -- Assumes nothing.
 use Prim.Native.Nat.{ℕ, _+_}
 use mathlib.Core.Path.{_≡_}
@@ -15,8 +15,8 @@ use Rattle.join.specs.declared.Open.the-variants.{No, One}
 use Rattle.join.specs.Join.{joins, grown}
 
 -- the fields of a record as 12 bytes
-abbrev pub fields : ℕ → ℕ → ℕ → List ℕ
-fields kind s a = kind ∷ 0 ∷ 0 ∷ 0 ∷ word s ++ word a
+abbrev pub fields : ℕ → ℕ → ℕ → ℕ → List ℕ
+fields kind mark s a = kind ∷ mark ∷ 0 ∷ 0 ∷ word s ++ word a
 
 -- what is still to be written of an open record
 abbrev pub pending : Open → List Record

@@ -1,21 +1,27 @@
 -- Which neighbouring records join, and the tidy form of a list: document 01, "A choice", as document 02 has it since matches that go on in the store
--- are one record (S-4).
+-- are one record (S-4), and may be held (S-6).
 -- Assumes nothing.
 use Prim.Native.Nat.{ℕ, _+_}
 use mathlib.Core.Path.{_≡_}
-use mathlib.Core.Bool.{Bool, true, false, cond}
+use mathlib.Core.Bool.{Bool, true, false, _&&_, Bool·beq, cond}
 use mathlib.Core.List.{List, [], _∷_}
 use lib.Dec.{eqb}
+use Rattle.format.specs.declared.Source.{Source}
 use Rattle.format.specs.declared.Record.{Record}
 use Rattle.format.specs.declared.Record.the-variants.{New, Match}
 use Rattle.format.specs.Meaning.{sizeOf}
 
--- whether two neighbours join: new records do, and matches do, "the second's address being the first's address plus size"
+-- whether a match of s bytes drawn from a goes on in one drawn from b: "the second's address being the first's address plus size", and "only if both
+-- marks are equal"
+abbrev pub goesOn : ℕ → Source → Source → Bool
+goesOn s a b = Bool·beq (a .held) (b .held) && eqb (a .address + s) (b .address)
+
+-- whether two neighbours join: new records do, and matches do where the first goes on in the second
 abbrev pub joins : Record → Record → Bool
 joins (New s) (New t) = true
 joins (New s) (Match t b) = false
 joins (Match s a) (New t) = false
-joins (Match s a) (Match t b) = eqb (a + s) b
+joins (Match s a) (Match t b) = goesOn s a b
 
 -- a record that another of t bytes joined
 abbrev pub grown : Record → ℕ → Record

@@ -1,14 +1,15 @@
-// Which neighbouring records join, and the writing of a list with one record held open, so that the next may join it.
+// Which neighbouring records join, and the writing of a list with one record left open, so that the next may join it.
 //
-// `joins` alone says what joins; what is written and what is held open follows from it.
+// `joins` alone says what joins; what is written and what is left open follows from it.
 ghost use mathlib.Core.Path.{_≡_};
 ghost use Prim.Native.Nat.{_+_, _≤_, _<_};
 ghost use lib.ListN.{length};
-ghost use Rattle.format.specs.Record.{bytesOf, encode};
+ghost use Rattle.format.specs.Record.{markByte, bytesOf, encode};
 ghost use Rattle.area.specs.Area.{pasted};
-ghost use Rattle.join.specs.Join.{joins, grown};
+ghost use Rattle.join.specs.Join.{goesOn, joins, grown};
 ghost use Rattle.join.specs.Emit.{fields, pending, openSize, follows, flushed, Emits};
 use format::Record;
+use format::Source;
 
 // A record that is not written yet, as the next may join it.
 pub enum Open {
@@ -22,12 +23,12 @@ pub struct Emitted {
 }
 
 // The 12 bytes of a record's fields.
-fn record_bytes(kind: u8, size: u32, address: u32) -> [u8; 12]
-    ensures { λ b. ⌜ b ≡ fields kind size address ⌝ }
+fn record_bytes(kind: u8, mark: u8, size: u32, address: u32) -> [u8; 12]
+    ensures { λ b. ⌜ b ≡ fields kind mark size address ⌝ }
 {
     [
         kind,
-        0,
+        mark,
         0,
         0,
         (size % 256) as u8,
@@ -41,13 +42,20 @@ fn record_bytes(kind: u8, size: u32, address: u32) -> [u8; 12]
     ]
 }
 
+// Byte 1 of a match.
+fn mark_byte(held: bool) -> u8
+    ensures { λ r. ⌜ r ≡ markByte held ⌝ }
+{
+    if held { 1 } else { 0 }
+}
+
 // The 12 bytes of a record.
 fn bytes_of(record: Record) -> [u8; 12]
     ensures { λ b. ⌜ b ≡ bytesOf «record» ⌝ }
 {
     match record {
-        Record::New(size) => record_bytes(0, size, 0),
-        Record::Match(size, address) => record_bytes(1, size, address),
+        Record::New(size) => record_bytes(0, 0, size, 0),
+        Record::Match(size, source) => record_bytes(1, mark_byte(source.held), size, source.address),
     }
 }
 
@@ -67,7 +75,17 @@ fn end_of(size: u32, address: u32) -> u64
     (address as u64) + (size as u64)
 }
 
-// Whether two neighbours join: new records do, and so do matches where the second begins where the first ends.
+// Whether a match of so many bytes goes on in another: with the same mark, where it ends.
+fn goes_on(size: u32, first: Source, second: Source) -> bool
+    ensures { λ r. ⌜ r ≡ goesOn size first second ⌝ }
+{
+    if first.held != second.held {
+        return false;
+    }
+    end_of(size, first.address) == (second.address as u64)
+}
+
+// Whether two neighbours join: new records do, and so do matches where the first goes on in the second.
 pub fn joins(first: Record, second: Record) -> bool
     ensures { λ r. ⌜ r ≡ joins first second ⌝ }
 {
@@ -76,9 +94,9 @@ pub fn joins(first: Record, second: Record) -> bool
             Record::New(_) => true,
             Record::Match(_, _) => false,
         },
-        Record::Match(size, address) => match second {
+        Record::Match(size, source) => match second {
             Record::New(_) => false,
-            Record::Match(_, next) => end_of(size, address) == (next as u64),
+            Record::Match(_, next) => goes_on(size, source, next),
         },
     }
 }
@@ -87,10 +105,10 @@ pub fn joins(first: Record, second: Record) -> bool
 pub fn follows(last: Open, record: Record) -> bool
     ensures { λ r. ⌜ r ≡ follows last «record» ⌝ }
 {
-    let Open::One(held) = last else {
+    let Open::One(waiting) = last else {
         return false;
     };
-    joins(held, record)
+    joins(waiting, record)
 }
 
 // A record that another of so many bytes joined.
@@ -100,7 +118,7 @@ fn grown(record: Record, more: u32) -> Record
 {
     match record {
         Record::New(size) => Record::New(size + more),
-        Record::Match(size, address) => Record::Match(size + more, address),
+        Record::Match(size, source) => Record::Match(size + more, source),
     }
 }
 
@@ -110,20 +128,20 @@ pub fn emit(area: &mut [u8], out: usize, last: Open, record: Record) -> Emitted
     requires { ⌜ openSize last + openSize (Open.One «record») < 4294967296 ⌝ }
     ensures { λ r. ⌜ Emits (now (area .entry)) out last «record» r (now (area .exit)) ⌝ }
 {
-    let Open::One(held) = last else {
+    let Open::One(waiting) = last else {
         return Emitted {
             out,
             last: Open::One(record),
         };
     };
-    if joins(held, record) {
-        let both = grown(held, format::size_of(record));
+    if joins(waiting, record) {
+        let both = grown(waiting, format::size_of(record));
         return Emitted {
             out,
             last: Open::One(both),
         };
     }
-    put_record(area, out, held);
+    put_record(area, out, waiting);
     Emitted {
         out: out + 12,
         last: Open::One(record),
@@ -135,9 +153,9 @@ pub fn flush(area: &mut [u8], out: usize, last: Open) -> usize
     requires { ⌜ out + length (encode (pending last)) ≤ length (now area) ⌝ }
     ensures { λ r. ⌜ (r ≡ out + length (encode (pending last))) × (now (area .exit) ≡ pasted out (encode (pending last)) (now (area .entry))) ⌝ }
 {
-    let Open::One(held) = last else {
+    let Open::One(waiting) = last else {
         return out;
     };
-    put_record(area, out, held);
+    put_record(area, out, waiting);
     out + 12
 }

@@ -36,7 +36,7 @@ Tidy (neither s ∷ l) = Tidy l
 -- of xs. Where j is true the first item of ys may be a match made new by itself, as it is to join one before it
 pub data Fused : Bool → List Item → List Item → Type 0 where
   none : Fused false [] []
-  keepMark : {s : ℕ} {xs ys : List Item} → Fused false xs ys → Fused false (neither s ∷ xs) (neither s ∷ ys)
+  keepNeither : {s : ℕ} {xs ys : List Item} → Fused false xs ys → Fused false (neither s ∷ xs) (neither s ∷ ys)
   keepMatch : {s : ℕ} {xs ys : List Item} → Fused false xs ys → Fused false (match s ∷ xs) (match s ∷ ys)
   takeNew : {j : Bool} {s : ℕ} {xs ys : List Item} → Fused false xs ys → Fused j (new s ∷ xs) (new s ∷ ys)
   takeMatch : {s : ℕ} {xs ys : List Item} → Fused false xs ys → Fused true (match s ∷ xs) (new s ∷ ys)
@@ -66,7 +66,7 @@ pub fuses-refl : (xs : List Item) → Fuses xs xs
 fuses-refl [] = none
 fuses-refl (new s ∷ xs) = takeNew (fuses-refl xs)
 fuses-refl (match s ∷ xs) = keepMatch (fuses-refl xs)
-fuses-refl (neither s ∷ xs) = keepMark (fuses-refl xs)
+fuses-refl (neither s ∷ xs) = keepNeither (fuses-refl xs)
 
 -- ---- what is kept when the list x turns into y by k merges
 
@@ -80,7 +80,7 @@ pub record Turns (w : Item → ℕ) (k : ℕ) (x y : List Item) : Type 0 where
   pub lower : weigh w y + k ≤ weigh w x
 
 pub fuses-cons : {j : Bool} {i : Item} {xs x y : List Item} → ((zs : List Item) → Fuses zs x → Fuses zs y) → Fused j xs (i ∷ x) → Fused j xs (i ∷ y)
-fuses-cons f (keepMark d) = keepMark (f _ d)
+fuses-cons f (keepNeither d) = keepNeither (f _ d)
 fuses-cons f (keepMatch d) = keepMatch (f _ d)
 fuses-cons f (takeNew d) = takeNew (f _ d)
 fuses-cons f (takeMatch d) = takeMatch (f _ d)

@@ -1,3 +1,4 @@
+pub mod Items
 pub mod Fusing
 pub mod Looks
 pub mod Running

@@ -5,7 +5,7 @@ use native.Mathlib.Omega.{arith}
 use native.Mathlib.Numerals.{add-one}
 use native.Mathlib.Nat.{lt-irrefl}
 use mathlib.Core.Path.{_≡_, refl, sym, ap, ap₂, _∙_}
-use mathlib.Core.Bool.{Bool, true, false}
+use mathlib.Core.Bool.{Bool, true, false, cond}
 use mathlib.Core.List.{List, [], _∷_}
 use lib.Dec.{leb}
 use lib.ListN.{length, getD, set, replicate, length-set, length-replicate, getD-replicate}
@@ -21,8 +21,9 @@ use Rattle.join.proofs.Joining.{join-true, join-settled, first-tidy, whole-tidy
 use Rattle.rules.specs.Rules.{Item, mark, size, itemOf}
 use Rattle.rules.proofs.ByKind.{size-item}
 use Rattle.linear.specs.declared.Machine.{Machine}
-use Rattle.linear.specs.Pass.{items, itemFor}
+use Rattle.linear.specs.Pass.{drawn, items, itemFor}
 use Rattle.linear.specs.Machine.{itemAt, fromPlace, kindOf, Loaded}
+use Rattle.linear.proofs.Items.{size-for}
 use Rattle.linear.proofs.Gap.{at-other, rear-set, fromPlace-next, fromPlace-none, fromPlace-put}
 
 -- the tidy form of the records from i on stands from `right` on, and the marks stand where they stay
@@ -37,17 +38,17 @@ pub record Laid (list : List ℕ) (kinds sizes : List ℕ) (i right : ℕ) : Typ
   pub rear : itemAt kinds sizes 4097 ≡ mark
   pub holds : fromPlace kinds sizes right ≡ items (tidy (recordsFrom list (length list / 12) i))
 
-size-for : (r : Record) → size (itemFor r) ≡ sizeOf r
-size-for (New s) = refl
-size-for (Match s a) = refl
+item-drawn : (h : Bool) (s : ℕ) → itemOf (cond h 2 1) s ≡ drawn h s
+item-drawn true s = refl
+item-drawn false s = refl
 
 item-kind : (r : Record) → itemOf (kindOf r) (sizeOf r) ≡ itemFor r
 item-kind (New s) = refl
-item-kind (Match s a) = refl
+item-kind (Match s a) = item-drawn (a .held) s
 
 item-grown : (r : Record) (t : ℕ) → itemOf (kindOf r) (sizeOf r + t) ≡ itemFor (grown r t)
 item-grown (New s) t = refl
-item-grown (Match s a) t = refl
+item-grown (Match s a) t = item-drawn (a .held) (s + t)
 
 -- the records from i on cover no more than all do
 whole-from : (list : List ℕ) (n i : ℕ) → whole (recordsFrom list n i) ≤ whole (recordsFrom list n 0)

@@ -4,46 +4,50 @@
 -- Assumes nothing.
 use Prim.Native.Nat.{ℕ, _+_, _-_, _≤_}
 use native.Mathlib.Omega.{arith}
-use mathlib.Core.Path.{_≡_, refl, sym, ap, _∙_}
+use mathlib.Core.Path.{_≡_, refl, sym, ap, subst, _∙_}
 use mathlib.Core.Bool.{Bool, true, false, not, cond}
 use mathlib.Core.List.{List, [], _∷_}
 use borrow.Author.Tests.{lt-ltb, le-ltb}
+use Rattle.format.specs.declared.Source.{Source}
 use Rattle.format.specs.declared.Record.{Record}
 use Rattle.format.specs.declared.Record.the-variants.{New, Match}
 use Rattle.format.specs.Meaning.{sizeOf}
 use Rattle.format.specs.WellFormed.{Sized}
-use Rattle.join.specs.Join.{joins, grown, join, tidy, Settled}
-use Rattle.join.proofs.Joining.{settled-tidy}
+use Rattle.join.specs.Join.{joins, grown, joinsFirst, join, tidy, Settled}
+use Rattle.join.proofs.Joining.{size-grown, settled-tidy}
 use Rattle.choice.specs.Choice.{Bit, keep, store, freedom, May, IsChoice, chosenRecord, listOf}
 use Rattle.choice.specs.Alone.{firstKept, storesAlone}
+use Rattle.choice.proofs.Least.{match-may-keep}
 use Rattle.choice.proofs.Lists.{kept-apart, size-chosen, sized-list}
 use Rattle.choice.proofs.Unjoining.{keep-store, unjoined, carried, spared}
-use Rattle.rules.specs.Rules.{Item, new, match, isNew}
+use Rattle.rules.specs.Rules.{Item, new, size, isNew}
 use Rattle.rules.proofs.ByKind.{and-false}
-use Rattle.linear.specs.Pass.{first, itemFor, items, cut, bitFor, choiceOf}
-use Rattle.linear.proofs.Fusing.{Tidy, Fused, Fuses, none, takeNew, takeMatch, moreNew, moreMatch, keepMatch}
+use Rattle.linear.specs.Pass.{drawn, first, itemFor, items, cut, bitFor, choiceOf}
+use Rattle.linear.proofs.Items.{new-drawn, size-for, shrunk-grown}
+use Rattle.linear.proofs.Fusing.{Tidy, Fused, Fuses, none, keepNeither, keepMatch, takeNew, takeMatch, moreNew, moreMatch}
 
 -- ---- a choice is read off its own list
 
 cut-all : (s : ℕ) (r : Record) (is : List Item) → sizeOf r ≡ s → cut s (itemFor r) is ≡ is
-cut-all s (New t) is e = rw (le-ltb s t (omega arith))
-cut-all s (Match t a) is e = rw (le-ltb s t (omega arith))
+cut-all s r is e = rw (le-ltb s (size (itemFor r)) (omega (arith, size-for r)))
 
 -- of two that joined, the second is left
 cut-grown : (s : ℕ) (r q : Record) (is : List Item) → sizeOf r ≡ s → 1 ≤ sizeOf q → joins r q ≡ true → cut s (itemFor (grown r (sizeOf q))) is ≡ itemFor q ∷ is
-cut-grown s (New u) (New t) is e h j = let d : u + t - s ≡ t = omega arith in rw (lt-ltb s (u + t) (omega arith), d)
-cut-grown s (New u) (Match t b) is e h j = cc
-cut-grown s (Match u a) (New t) is e h j = cc
-cut-grown s (Match u a) (Match t b) is e h j = let d : u + t - s ≡ t = omega arith in rw (lt-ltb s (u + t) (omega arith), d)
+cut-grown s r q is e h j =
+    let both : Record = grown r (sizeOf q) in
+    rw (lt-ltb s (size (itemFor both)) (omega (arith, size-for both, size-grown r (sizeOf q))), ← e, shrunk-grown r q j)
+
+bit-drawn : (h : Bool) (s : ℕ) → bitFor (drawn h s) ≡ keep
+bit-drawn h s = rw (new-drawn h s)
 
 bit-grown : (r : Record) (t : ℕ) → bitFor (itemFor (grown r t)) ≡ bitFor (itemFor r)
 bit-grown (New s) t = refl
-bit-grown (Match s a) t = refl
+bit-grown (Match s a) t = bit-drawn (a .held) (s + t) ∙ sym (bit-drawn (a .held) s)
 
 bit-chosen : (r : Record) (b : Bit) → May (freedom r) b → bitFor (itemFor (chosenRecord b r)) ≡ b
 bit-chosen (New s) keep h = keep-store h
 bit-chosen (New s) store h = refl
-bit-chosen (Match s a) keep h = refl
+bit-chosen (Match s a) keep h = bit-drawn (a .held) s
 bit-chosen (Match s a) store h = refl
 
 module _ (r : Record) (rs : List Record) (b : Bit) (c : List Bit) (may : May (freedom r) b) where
@@ -74,12 +78,16 @@ read-back (r ∷ rs) (b ∷ c) k h = read-join r rs b c (h .0) (listOf rs c) (si
 items-join : (s : ℕ) (l : List Record) (is : List Item) → items l ≡ is → isNew (first is) ≡ false → items (join (New s) l) ≡ new s ∷ is
 items-join s [] is e n = cc
 items-join s (New t ∷ l) is e n = cc
-items-join s (Match t a ∷ l) is e n = cc
+items-join s (Match t a ∷ l) is e n = ap (λ (x : List Item). new s ∷ x) e
+
+drawn-not-new : (h : Bool) (u t : ℕ) (l is : List Item) → drawn h u ∷ l ≡ new t ∷ is → ⊥
+drawn-not-new true u t l is e = let z : _≡_ {A = ℕ} 0 1 = cc in omega arith
+drawn-not-new false u t l is e = let z : _≡_ {A = ℕ} 0 1 = cc in omega arith
 
 items-join-new : (s t : ℕ) (l : List Record) (is : List Item) → items l ≡ new t ∷ is → items (join (New s) l) ≡ new (s + t) ∷ is
 items-join-new s t [] is e = cc
 items-join-new s t (New u ∷ l) is e = cc
-items-join-new s t (Match u a ∷ l) is e = cc
+items-join-new s t (Match u a ∷ l) is e = absurd (drawn-not-new (a .held) u t (items l) is e)
 
 -- where the first item may join one before it, that one is stored
 abbrev Before : Bool → Bool → Type 0
@@ -93,6 +101,41 @@ record Found (j : Bool) (js : List Record) (is : List Item) : Type 0 where
   listed : items (listOf js choice) ≡ is
   begins : firstKept choice ≡ not (isNew (first is))
   alone : (k : Bool) → Before j k → storesAlone k js choice ≡ false
+
+-- a match before js: kept, held or not, or stored where it is not held
+module _ (s : ℕ) (a : Source) (js : List Record) (ih : (j : Bool) (is : List Item) → Tidy is → Fused j (items js) is → Found j js is) (apart : joinsFirst (Match s a) js ≡ false) where
+  found-kept : (is : List Item) → Tidy is → Fused false (items js) is → Found false (Match s a ∷ js) (itemFor (Match s a) ∷ is)
+  found-kept is n d =
+      let i = ih false is n d in
+      record {
+        choice = keep ∷ i .choice;
+        fits = (match-may-keep s a, i .fits);
+        listed = ap items (kept-apart s a js (i .choice) apart) ∙ ap (λ (l : List Item). itemFor (Match s a) ∷ l) (i .listed);
+        begins = sym (ap not (new-drawn (a .held) s));
+        alone = λ k b. i .alone true tt;
+      }
+
+  found-match : (held : Bool) → a .held ≡ held → (j : Bool) (is : List Item) → Tidy is → Fused j (drawn held s ∷ items js) is → Found j (Match s a ∷ js) is
+  found-match true e j is n (keepNeither {ys} d) = subst (λ (x : Bool). Found false (Match s a ∷ js) (drawn x s ∷ ys)) e (found-kept ys n d)
+  found-match false e j is n (keepMatch {ys} d) = subst (λ (x : Bool). Found false (Match s a ∷ js) (drawn x s ∷ ys)) e (found-kept ys n d)
+  found-match false e j is n (takeMatch {ys} d) =
+      let i = ih false ys (n .1) d in
+      record {
+        choice = store ∷ i .choice;
+        fits = (rw e tt, i .fits);
+        listed = items-join s (listOf js (i .choice)) ys (i .listed) (n .0);
+        begins = refl;
+        alone = λ k b. rw b (i .alone false tt);
+      }
+  found-match false e j is n (moreMatch {b = t} {ys} d) =
+      let i = ih true (new t ∷ ys) n d in
+      record {
+        choice = store ∷ i .choice;
+        fits = (rw e tt, i .fits);
+        listed = items-join-new s t (listOf js (i .choice)) ys (i .listed);
+        begins = refl;
+        alone = λ k b. rw (i .begins, and-false k) (i .alone false refl);
+      }
 
 found : {j : Bool} (js : List Record) (is : List Item) → Settled js → Tidy is → Fused j (items js) is → Found j js is
 found [] is h n none = record { choice = []; fits = tt; listed = refl; begins = refl; alone = λ k b. refl }
@@ -114,33 +157,7 @@ found (New s ∷ js) is h n (moreNew {b = t} {ys} d) =
       begins = refl;
       alone = λ k b. i .alone false refl;
     }
-found (Match s a ∷ js) is h n (keepMatch {ys} d) =
-    let i = found js ys (h .1) n d in
-    record {
-      choice = keep ∷ i .choice;
-      fits = (tt, i .fits);
-      listed = ap items (kept-apart s a js (i .choice) (h .0)) ∙ ap (λ (l : List Item). match s ∷ l) (i .listed);
-      begins = refl;
-      alone = λ k b. i .alone true tt;
-    }
-found (Match s a ∷ js) is h n (takeMatch {ys} d) =
-    let i = found js ys (h .1) (n .1) d in
-    record {
-      choice = store ∷ i .choice;
-      fits = (tt, i .fits);
-      listed = items-join s (listOf js (i .choice)) ys (i .listed) (n .0);
-      begins = refl;
-      alone = λ k b. rw b (i .alone false tt);
-    }
-found (Match s a ∷ js) is h n (moreMatch {b = t} {ys} d) =
-    let i = found js (new t ∷ ys) (h .1) n d in
-    record {
-      choice = store ∷ i .choice;
-      fits = (tt, i .fits);
-      listed = items-join-new s t (listOf js (i .choice)) ys (i .listed);
-      begins = refl;
-      alone = λ k b. rw (i .begins, and-false k) (i .alone false refl);
-    }
+found {j} (Match s a ∷ js) is h n d = found-match s a js (λ x is. found {j = x} js is (h .1)) (h .0) (a .held) refl j is n d
 
 -- ---- over the records as handed in
 

@@ -8,7 +8,7 @@ use mathlib.Core.List.{List, [], _∷_}
 use lib.ListN.{length}
 use Rattle.rules.specs.Rules.{Item, mark, Tests}
 use Rattle.linear.specs.Pass.{bytes, rest, Look, lookAt, mergeIn, mergesIn, Run, stopped, preceded, run, pass, joined, endItems}
-use Rattle.linear.proofs.Fusing.{Starts, Tidy, Fuses, none, keepMark, fuses-refl, weigh, length-joined, two-of-starts, Turns, turns-refl, turns-trans}
+use Rattle.linear.proofs.Fusing.{Starts, Tidy, Fuses, none, keepNeither, fuses-refl, weigh, length-joined, two-of-starts, Turns, turns-refl, turns-trans}
 use Rattle.linear.proofs.Looks.{Pays, Seen, seen, look-turns, look-nearer}
 
 module _ (t : Tests) (w : Item → ℕ) (pays : Pays t w) where
@@ -42,7 +42,7 @@ record Fronted (xs z : List Item) : Type 0 where
   behind : Fuses xs (rest z)
 
 fronted : {xs z : List Item} → Fuses (mark ∷ xs) z → Fronted xs z
-fronted (keepMark d) = record { front = refl; behind = d }
+fronted (keepNeither d) = record { front = refl; behind = d }
 
 -- what the pass over xs comes to
 pub record Passes (t : Tests) (w : Item → ℕ) (xs : List Item) : Type 0 where

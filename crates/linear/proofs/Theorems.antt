@@ -3,8 +3,8 @@
 -- Assumes nothing.
 use Prim.Native.Nat.{ℕ, suc, _+_, _-_, _*_, _≤_}
 use native.Mathlib.Omega.{arith}
-use mathlib.Core.Path.{_≡_, refl, _∙_, ap}
-use mathlib.Core.Bool.{true, false}
+use mathlib.Core.Path.{_≡_, refl, _∙_, ap, ap₂}
+use mathlib.Core.Bool.{Bool, true, false}
 use mathlib.Core.List.{List, [], _∷_}
 use lib.ListN.{length}
 use borrow.Author.Tests.{ltb-true, lt-ltb}
@@ -20,7 +20,8 @@ use Rattle.choice.specs.Choice.{IsChoice, listOf}
 use Rattle.choice.specs.Alone.{storesAlone}
 use Rattle.choice.proofs.Least.{cost-tidy}
 use Rattle.rules.specs.Rules.{Item, new, match, neither, isNew, testsOf}
-use Rattle.linear.specs.Pass.{first, items, bytes, Look, lookAt, mergeIn, mergesIn, joined, pass, passOutcomes, passLooks, passItems, passChoice}
+use Rattle.linear.specs.Pass.{drawn, first, items, bytes, Look, lookAt, mergeIn, mergesIn, joined, pass, passOutcomes, passLooks, passItems, passChoice}
+use Rattle.linear.proofs.Items.{new-drawn, size-for}
 use Rattle.linear.proofs.Fusing.{Starts, Tidy, weigh}
 use Rattle.linear.proofs.Looks.{Pays, seen, look-turns}
 use Rattle.linear.proofs.Running.{Passes, passes}
@@ -32,10 +33,14 @@ priceOf r (new s) = r .fresh .0 + r .byte .0 * s
 priceOf r (match s) = r .kept .0
 priceOf r (neither s) = r .kept .0
 
+price-drawn : (r : Rates) (h : Bool) (s : ℕ) → priceOf r (drawn h s) ≡ r .kept .0
+price-drawn r true s = refl
+price-drawn r false s = refl
+
 pub cost-weigh : (r : Rates) (rs : List Record) → cost r rs ≡ weigh (priceOf r) (items rs)
 cost-weigh r [] = omega arith
 cost-weigh r (New s ∷ rs) = omega (arith, cost-weigh r rs)
-cost-weigh r (Match s a ∷ rs) = omega (arith, cost-weigh r rs)
+cost-weigh r (Match s a ∷ rs) = omega (arith, cost-weigh r rs, price-drawn r (a .held) s)
 
 pub merges-pay : (r : Rates) → Pays (testsOf r) (priceOf r)
 merges-pay r =
@@ -53,18 +58,21 @@ length-items (r ∷ rs) = ap suc (length-items rs)
 
 pub bytes-items : (rs : List Record) → bytes (items rs) ≡ whole rs
 bytes-items [] = refl
-bytes-items (New s ∷ rs) = ap (λ (n : ℕ). s + n) (bytes-items rs)
-bytes-items (Match s a ∷ rs) = ap (λ (n : ℕ). s + n) (bytes-items rs)
+bytes-items (r ∷ rs) = ap₂ (λ (m n : ℕ). m + n) (size-for r) (bytes-items rs)
 
 not-new-items : (rs : List Record) → NotNew rs → isNew (first (items rs)) ≡ false
 not-new-items [] h = refl
 not-new-items (New s ∷ rs) h = absurd h
-not-new-items (Match s a ∷ rs) h = refl
+not-new-items (Match s a ∷ rs) h = new-drawn (a .held) s
 
 pub tidy-of-apart : (rs : List Record) → Apart rs → Tidy (items rs)
 tidy-of-apart [] h = tt
 tidy-of-apart (New s ∷ rs) h = (not-new-items rs (h .0), tidy-of-apart rs (h .1))
-tidy-of-apart (Match s a ∷ rs) h = tidy-of-apart rs h
+tidy-of-apart (Match s a ∷ rs) h = go (a .held) (tidy-of-apart rs h)
+  where
+    go : (x : Bool) → Tidy (items rs) → Tidy (drawn x s ∷ items rs)
+    go true k = k
+    go false k = k
 
 -- each merge lowers the cost of the carried list, marks priced like records, and an advance does not raise it
 pub merge-lowers : (rates : Rates) (l : List Item) (x : Item) (r : List Item) → Starts (joined l (x ∷ r))

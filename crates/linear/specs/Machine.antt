@@ -3,7 +3,7 @@
 -- Assumes nothing.
 use Prim.Native.Nat.{ℕ, zero, suc, _+_, _-_, _*_, _≤_, _<_}
 use mathlib.Core.Path.{_≡_}
-use mathlib.Core.Bool.{false}
+use mathlib.Core.Bool.{false, cond}
 use mathlib.Core.List.{List, [], _∷_}
 use lib.ListN.{length, getD, set}
 use Rattle.format.specs.declared.Record.{Record}
@@ -138,10 +138,10 @@ pub record Looked (rates : Rates) (m : Machine) (s : Step) : Type 0 where
   pub within : s .next .right ≤ 4097
   pub rear : itemIn (leftBy s) 4097 ≡ mark
 
--- the kind of a record in a cell: 0 new, 1 match
+-- the kind of a record in a cell: 0 new, 1 match, 2 a held match
 abbrev pub kindOf : Record → ℕ
 kindOf (New s) = 0
-kindOf (Match s a) = 1
+kindOf (Match s a) = cond (a .held) 2 1
 
 -- a machine at the start of a pass: only the front mark comes before p
 pub record Loaded (m : Machine) (xs : List Item) : Type 0 where

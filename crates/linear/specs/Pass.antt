@@ -4,7 +4,7 @@
 -- Assumes nothing.
 use Prim.Native.Nat.{ℕ, zero, suc, _+_, _-_, _*_, _≤_}
 use mathlib.Core.Path.{_≡_}
-use mathlib.Core.Bool.{cond}
+use mathlib.Core.Bool.{Bool, cond}
 use mathlib.Core.List.{List, [], _∷_}
 use lib.Dec.{ltb}
 use lib.ListN.{length}
@@ -26,10 +26,14 @@ use Rattle.rules.specs.declared.Outcome.the-variants.{Advance, Merged}
 
 -- ---- the list: "a record of kinds and sizes .. with a front and a rear mark, both of neither kind"
 
+-- a match of s bytes; a held one is of neither kind, so that "no merge touches it" (document 02, S-6)
+abbrev pub drawn : Bool → ℕ → Item
+drawn held s = cond held (neither s) (match s)
+
 -- a record by its kind and size
 abbrev pub itemFor : Record → Item
 itemFor (New s) = new s
-itemFor (Match s a) = match s
+itemFor (Match s a) = drawn (a .held) s
 
 -- the records of a list, in their order
 abbrev pub items : List Record → List Item
@@ -162,7 +166,7 @@ shrunk (neither t) s = neither (t - s)
 abbrev pub cut : ℕ → Item → List Item → List Item
 cut s i is = cond (ltb s (size i)) (shrunk i s ∷ is) is
 
--- 1 for a new item, 0 for a match
+-- 1 for a new item, 0 for a match, held or not
 abbrev pub bitFor : Item → Bit
 bitFor i = cond (isNew i) store keep
 

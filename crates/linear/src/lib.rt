@@ -194,13 +194,18 @@ fn run(machine: Machine, rates: Rates) -> Passed
     Passed { list, looks }
 }
 
-// The kind of a record: 0 new, 1 match.
+// The kind of a record: 0 new, 1 match, 2 a held match, which is of neither kind.
 fn kind_of(record: Record) -> u8
     ensures { λ r. ⌜ r ≡ kindOf «record» ⌝ }
 {
     match record {
         Record::New(_) => 0,
-        Record::Match(_, _) => 1,
+        Record::Match(_, source) => {
+            if source.held {
+                return 2;
+            }
+            1
+        }
     }
 }
 

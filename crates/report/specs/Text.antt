@@ -29,10 +29,10 @@ field w n = w ++ decimal n
 abbrev pub lastField : List ℕ → ℕ → List ℕ
 lastField w n = field w n ++ (10 ∷ [])
 
--- `N size` or `M size address`
+-- `N size` or `M size address`; the mark is not printed
 abbrev pub recordText : Record → List ℕ
 recordText (New s) = lastField (78 ∷ 32 ∷ []) s
-recordText (Match s a) = field (77 ∷ 32 ∷ []) s ++ lastField (32 ∷ []) a
+recordText (Match s a) = field (77 ∷ 32 ∷ []) s ++ lastField (32 ∷ []) (a .address)
 
 abbrev pub recordsText : List Record → List ℕ
 recordsText [] = []

@@ -7,6 +7,7 @@ ghost use Rattle.report.specs.Text.{decimal, field, lastField, recordTex
 use format::Figures;
 use format::Record;
 use format::Refusal;
+use format::Source;
 
 fn wide(x: u32) -> u64
     ensures { λ r. ⌜ r ≡ x ⌝ }
@@ -55,13 +56,13 @@ fn put_last(area: &mut [u8], at: usize, word: &[u8], n: u32) -> usize
 }
 
 // The line of a match.
-fn put_match(area: &mut [u8], at: usize, size: u32, address: u32) -> usize
+fn put_match(area: &mut [u8], at: usize, size: u32, source: Source) -> usize
     requires { ⌜ at + 44 ≤ length (now area) ⌝ }
-    ensures { λ r. ⌜ Written at (recordText (Record.Match size address)) (now (area .entry)) r (now (area .exit)) ⌝ }
+    ensures { λ r. ⌜ Written at (recordText (Record.Match size source)) (now (area .entry)) r (now (area .exit)) ⌝ }
     ensures { λ r. ⌜ r ≤ at + 44 ⌝ }
 {
     let next = put_field(area, at, b"M ", wide(size));
-    put_last(area, next, b" ", address)
+    put_last(area, next, b" ", source.address)
 }
 
 // The line of a record.
@@ -72,7 +73,7 @@ fn put_record(area: &mut [u8], at: usize, record: Record) -> usize
 {
     match record {
         Record::New(size) => put_last(area, at, b"N ", size),
-        Record::Match(size, address) => put_match(area, at, size, address),
+        Record::Match(size, source) => put_match(area, at, size, source),
     }
 }
 

@@ -71,8 +71,8 @@ pub fn part_of<'a>(record: Record, before: usize, block: &'a [u8], store: &'a [u
             let to = before + format::index(size);
             &block[before..to]
         }
-        Record::Match(size, address) => {
-            let from = format::index(address);
+        Record::Match(size, source) => {
+            let from = format::index(source.address);
             let to = from + format::index(size);
             &store[from..to]
         }

@@ -36,27 +36,30 @@ module _ (rates : Rates) (o : Open) (r : Record) (d : Cost) where
   adds-apart f e h = record { is = rw f e; most = h }
 
 -- the better way, by the tests that the code makes: k is what keeping the record comes to, n is what storing it does
-module _ (rates : Rates) (o : Open) (r : Record) (kept held k n : ℕ) (ek : k ≡ step rates o r keep + kept) (en : n ≡ step rates o r store + held) (most : n ≤ held + stepMost) where
+module _ (rates : Rates) (o : Open) (r : Record) (kept stored k n : ℕ) (ek : k ≡ step rates o r keep + kept) (en : n ≡ step rates o r store + stored) (kept-most : k ≤ kept + stepMost) (stored-most : n ≤ stored + stepMost) where
   abbrev way : ℕ → ℕ → Way
   way m b = record { cost = record { 0 = m }; bit = b }
 
-  pub better-only : freedom r ≡ only store → Better rates o r kept held (way n 1)
-  better-only f = record { is = rw (en, f); cost-most = most; bit-most = omega arith }
+  pub better-only : freedom r ≡ only store → Better rates o r kept stored (way n 1)
+  better-only f = record { is = rw (en, f); cost-most = λ m a b. omega arith; bit-most = omega arith }
 
-  pub better-keep : freedom r ≡ either → k ≤ n → Better rates o r kept held (way k 0)
-  better-keep f h = record { is = rw (← ek, ← en, f, le-leb k n h); cost-most = omega arith; bit-most = omega arith }
+  pub better-held : freedom r ≡ only keep → Better rates o r kept stored (way k 0)
+  better-held f = record { is = rw (ek, f); cost-most = λ m a b. omega arith; bit-most = omega arith }
 
-  pub better-store : freedom r ≡ either → n < k → Better rates o r kept held (way n 1)
-  better-store f h = record { is = rw (← ek, ← en, f, lt-leb k n h); cost-most = most; bit-most = omega arith }
+  pub better-keep : freedom r ≡ either → k ≤ n → Better rates o r kept stored (way k 0)
+  better-keep f h = record { is = rw (← ek, ← en, f, le-leb k n h); cost-most = λ m a b. omega arith; bit-most = omega arith }
+
+  pub better-store : freedom r ≡ either → n < k → Better rates o r kept stored (way n 1)
+  better-store f h = record { is = rw (← ek, ← en, f, lt-leb k n h); cost-most = λ m a b. omega arith; bit-most = omega arith }
 
 left-keep : (o : Open) → leftBy o keep ≡ o
 left-keep No = refl
 left-keep (One r) = refl
 
 -- both ways with a record, after the one before it, kept or stored
-pub turned-of : (rates : Rates) (o : Open) (r : Record) (kept held : ℕ) (k s : Way) → Better rates o r kept held k → Better rates (leftBy o store) r kept held s
-    → Turned rates o r kept held (record { kept = record { 0 = k .cost .0 }; stored = record { 0 = s .cost .0 }; hint = k .bit + 2 * s .bit })
-turned-of rates o r kept held k s hk hs = record { is = rw (hk .is, hs .is, left-keep o); kept-most = hk .cost-most; stored-most = hs .cost-most }
+pub turned-of : (rates : Rates) (o : Open) (r : Record) (kept stored : ℕ) (k s : Way) → Better rates o r kept stored k → Better rates (leftBy o store) r kept stored s
+    → Turned rates o r kept stored (record { kept = record { 0 = k .cost .0 }; stored = record { 0 = s .cost .0 }; hint = k .bit + 2 * s .bit })
+turned-of rates o r kept stored k s hk hs = record { is = rw (hk .is, hs .is, left-keep o); kept-most = hk .cost-most; stored-most = hs .cost-most }
 
 -- ---- the sweep from the rear
 
@@ -67,18 +70,18 @@ before-next : (list : List ℕ) (i : ℕ) → 0 < i → beforeAt list i ≡ One 
 before-next list i h = let some : i ≡ 0 → ⊥ = λ e. omega arith in rw (ne-eqb i 0 some)
 
 -- what the sweep has left before record i
-pub record Swept (rates : Rates) (list : List ℕ) (n i kept held : ℕ) (h : List ℕ) : Type 0 where
+pub record Swept (rates : Rates) (list : List ℕ) (n i kept stored : ℕ) (h : List ℕ) : Type 0 where
   pub kept-is : kept ≡ bestOf rates (recordsFrom list n i) (leftBy (beforeAt list i) keep)
-  pub held-is : held ≡ bestOf rates (recordsFrom list n i) (leftBy (beforeAt list i) store)
+  pub stored-is : stored ≡ bestOf rates (recordsFrom list n i) (leftBy (beforeAt list i) store)
   pub hints-are : h ≡ hintBytes (hintsOf rates (leftBy (beforeAt list i)) (recordsFrom list n i))
 
 pub swept-end : (rates : Rates) (list : List ℕ) (n : ℕ) → Swept rates list n n 0 0 []
-swept-end rates list n = record { kept-is = rw (records-end list n); held-is = rw (records-end list n); hints-are = rw (records-end list n) }
+swept-end rates list n = record { kept-is = rw (records-end list n); stored-is = rw (records-end list n); hints-are = rw (records-end list n) }
 
-pub swept-next : {rates : Rates} {list : List ℕ} {n i kept held : ℕ} {h : List ℕ} → Swept rates list n i kept held h → 0 < i → i ≤ n
-    → (t : Turn) → t ≡ turned rates (beforeAt list (i - 1)) (recordOf (rowAt list (i - 1))) kept held
+pub swept-next : {rates : Rates} {list : List ℕ} {n i kept stored : ℕ} {h : List ℕ} → Swept rates list n i kept stored h → 0 < i → i ≤ n
+    → (t : Turn) → t ≡ turned rates (beforeAt list (i - 1)) (recordOf (rowAt list (i - 1))) kept stored
     → Swept rates list n (i - 1) (t .kept .0) (t .stored .0) (t .hint ∷ h)
-swept-next {rates} {list} {n} {i} {kept} {held} {h} s some most t e = rw (e, s .kept-is, s .held-is, s .hints-are, before-next list i some) (record { kept-is = rw back; held-is = rw back; hints-are = rw back })
+swept-next {rates} {list} {n} {i} {kept} {stored} {h} s some most t e = rw (e, s .kept-is, s .stored-is, s .hints-are, before-next list i some) (record { kept-is = rw back; stored-is = rw back; hints-are = rw back })
   where
     back : recordsFrom list n (i - 1) ≡ recordOf (rowAt list (i - 1)) ∷ recordsFrom list n i
     back = recordsFrom-back list n i some most

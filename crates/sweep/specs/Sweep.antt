@@ -42,7 +42,7 @@ stepMost = 1099528339201
 
 pub record Better (rates : Rates) (o : Open) (r : Record) (kept stored : ℕ) (w : Way) : Type 0 where
   pub is : w ≡ wayOf rates o r kept stored
-  pub cost-most : w .cost .0 ≤ stored + stepMost
+  pub cost-most : (m : ℕ) → kept ≤ m → stored ≤ m → w .cost .0 ≤ m + stepMost
   pub bit-most : w .bit ≤ 1
 
 -- what a record adds
@@ -68,8 +68,8 @@ turned rates o r kept stored =
 
 pub record Turned (rates : Rates) (o : Open) (r : Record) (kept stored : ℕ) (t : Turn) : Type 0 where
   pub is : t ≡ turned rates o r kept stored
-  pub kept-most : t .kept .0 ≤ stored + stepMost
-  pub stored-most : t .stored .0 ≤ stored + stepMost
+  pub kept-most : (m : ℕ) → kept ≤ m → stored ≤ m → t .kept .0 ≤ m + stepMost
+  pub stored-most : (m : ℕ) → kept ≤ m → stored ≤ m → t .stored .0 ≤ m + stepMost
 
 -- the least cost of the records, after the state o
 abbrev pub bestOf : Rates → List Record → Open → ℕ

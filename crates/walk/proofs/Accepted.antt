@@ -12,7 +12,7 @@ use Rattle.format.specs.declared.Row.{Row}
 use Rattle.format.specs.declared.Record.{Record}
 use Rattle.format.specs.declared.Record.the-variants.{New, Match}
 use Rattle.format.specs.declared.Ruling.the-variants.{Fine}
-use Rattle.format.specs.Record.{isNew, records}
+use Rattle.format.specs.Record.{isNew, sourceOf, records}
 use Rattle.format.specs.Refusal.{need}
 use Rattle.format.specs.Meaning.{whole}
 use Rattle.format.specs.WellFormed.{Sized, NotNew, Apart, Inside, Agrees}
@@ -84,7 +84,7 @@ apart-of-five s (r ∷ rs) h = go (isNew r) (s .fresh) (h .0) (apart-of-five (ne
     l = records rs
 
     go : (x y : Bool) → not (x && y) ≡ true → Apart l × (x ≡ true → NotNew l)
-        → Apart (cond x (New (r .size)) (Match (r .size) (r .address)) ∷ l) × (y ≡ true → NotNew (cond x (New (r .size)) (Match (r .size) (r .address)) ∷ l))
+        → Apart (cond x (New (r .size)) (Match (r .size) (sourceOf r)) ∷ l) × (y ≡ true → NotNew (cond x (New (r .size)) (Match (r .size) (sourceOf r)) ∷ l))
     go true true e k = absurd (let z : _≡_ {A = ℕ} 0 1 = cc in omega arith)
     go true false e k = ((k .1 refl, k .0), λ f. absurd (let z : _≡_ {A = ℕ} 0 1 = cc in omega arith))
     go false y e k = (k .0, λ f. tt)
@@ -97,7 +97,7 @@ pub inside-of-seven : (st : List ℕ) (s : Seen) (rs : List Row) → Holds (seve
 inside-of-seven st s [] h = tt
 inside-of-seven st s (r ∷ rs) h = go (isNew r) (h .0) (inside-of-seven st (next s r) rs (h .1))
   where
-    go : (x : Bool) → x || within r st ≡ true → Inside st (records rs) → Inside st (cond x (New (r .size)) (Match (r .size) (r .address)) ∷ records rs)
+    go : (x : Bool) → x || within r st ≡ true → Inside st (records rs) → Inside st (cond x (New (r .size)) (Match (r .size) (sourceOf r)) ∷ records rs)
     go true e k = k
     go false e k = (leb-true (r .address + r .size) (length st) e, k)
 
@@ -114,6 +114,6 @@ agrees-of-eight v st s (r ∷ rs) f g h e =
     long = omega (arith, length-drop (s .offset) v, leb-true (s .offset + r .size) (length v) (f .0))
 
     go : (x : Bool) → x || within r st ≡ true → x || sameBytes (take (r .size) w) (take (r .size) (drop (r .address) st)) ≡ true → Agrees st (records rs) (drop (r .size) w)
-        → Agrees st (cond x (New (r .size)) (Match (r .size) (r .address)) ∷ records rs) w
+        → Agrees st (cond x (New (r .size)) (Match (r .size) (sourceOf r)) ∷ records rs) w
     go true a b k = (long, k)
     go false a b k = (long, leb-true (r .address + r .size) (length st) a, eq-of-same (take (r .size) w) (take (r .size) (drop (r .address) st)) b, k)

@@ -5,6 +5,7 @@ use native.Mathlib.Omega.{arith}
 use mathlib.Core.Path.{_≡_, refl}
 use mathlib.Core.Bool.{Bool, true, false, not}
 use mathlib.Core.List.{List, [], _∷_}
+use lib.Dec.{leb}
 use lib.ListN.{length, take, drop}
 use lib.Seq.{drop-drop}
 use borrow.Author.Tests.{le-leb}
@@ -12,7 +13,7 @@ use Rattle.format.specs.declared.Record.{Record}
 use Rattle.format.specs.declared.Record.the-variants.{New, Match}
 use Rattle.format.specs.declared.Ruling.the-variants.{Fine}
 use Rattle.format.specs.Limits.{versionMost}
-use Rattle.format.specs.Record.{encode}
+use Rattle.format.specs.Record.{markByte, encode}
 use Rattle.format.specs.Meaning.{whole}
 use Rattle.format.specs.WellFormed.{Sized, NotNew, Apart, Inside, Agrees, WellFormed}
 use Rattle.format.proofs.Encoding.{rowFor, rowsFor, rows-encode}
@@ -23,10 +24,14 @@ use Rattle.walk.specs.Checks.{four, five, six, seven, eight, next, front
 use Rattle.walk.proofs.Equality.{same-refl}
 use Rattle.walk.proofs.Accepted.{Holds, fine-of-each}
 
+mark-fits : (h : Bool) → leb (markByte h) 1 ≡ true
+mark-fits true = refl
+mark-fits false = refl
+
 four-of-sized : (s : Seen) (l : List Record) → Sized l → Holds four s (rowsFor l)
 four-of-sized s [] h = tt
 four-of-sized s (New n ∷ l) h = (rw (le-leb 1 n (h .0)), four-of-sized (next s (rowFor (New n))) l (h .1))
-four-of-sized s (Match n a ∷ l) h = (rw (le-leb 1 n (h .0)), four-of-sized (next s (rowFor (Match n a))) l (h .1))
+four-of-sized s (Match n a ∷ l) h = (rw (mark-fits (a .held), le-leb 1 n (h .0)), four-of-sized (next s (rowFor (Match n a))) l (h .1))
 
 five-of-apart : (s : Seen) (l : List Record) → (s .fresh ≡ true → NotNew l) → Apart l → Holds five s (rowsFor l)
 five-of-apart s [] g h = tt
@@ -46,12 +51,12 @@ eight-of-agrees : (v st : List ℕ) (s : Seen) (l : List Record) → Agrees st l
 eight-of-agrees v st s [] h = tt
 eight-of-agrees v st s (New n ∷ l) h = (refl, eight-of-agrees v st (next s (rowFor (New n))) l (rw (drop-drop n (s .offset) v) at (h .1)))
 eight-of-agrees v st s (Match n a ∷ l) h =
-    (rw (h .2) (same-refl (take n (drop a st))), eight-of-agrees v st (next s (rowFor (Match n a))) l (rw (drop-drop n (s .offset) v) at (h .3)))
+    (rw (h .2) (same-refl (take n (drop (a .address) st))), eight-of-agrees v st (next s (rowFor (Match n a))) l (rw (drop-drop n (s .offset) v) at (h .3)))
 
 seven-of-inside : (st : List ℕ) (s : Seen) (l : List Record) → Inside st l → Holds (seven st) s (rowsFor l)
 seven-of-inside st s [] h = tt
 seven-of-inside st s (New n ∷ l) h = (refl, seven-of-inside st (next s (rowFor (New n))) l h)
-seven-of-inside st s (Match n a ∷ l) h = (le-leb (a + n) (length st) (h .0), seven-of-inside st (next s (rowFor (Match n a))) l (h .1))
+seven-of-inside st s (Match n a ∷ l) h = (le-leb (a .address + n) (length st) (h .0), seven-of-inside st (next s (rowFor (Match n a))) l (h .1))
 
 at-front : (l : List Record) → front .fresh ≡ true → NotNew l
 at-front l e = absurd (let z : _≡_ {A = ℕ} 0 1 = cc in omega arith)

@@ -7,6 +7,7 @@ use mathlib.Core.Path.{_≡_, sym, _∙_, ap}
 use mathlib.Core.List.{List, [], _++_, append-nil}
 use lib.ListN.{length, take, drop, length-append, length-drop}
 use lib.Seq.{drop-drop, length-take-le}
+use Rattle.format.specs.declared.Source.{Source}
 use Rattle.format.specs.declared.Record.{Record}
 use Rattle.format.specs.declared.Record.the-variants.{New, Match}
 use Rattle.format.specs.Limits.{versionMost}
@@ -22,7 +23,7 @@ use Rattle.join.specs.declared.Open.the-variants.{No}
 use Rattle.join.specs.Join.{join, tidy}
 use Rattle.join.specs.Emit.{pending, openSize, flushed, opened}
 use Rattle.join.proofs.Joining.{block-join}
-use Rattle.join.proofs.Emitting.{held, held-none, held-join, open-size}
+use Rattle.join.proofs.Emitting.{ahead, ahead-none, ahead-join, open-size}
 use Rattle.choice.specs.Choice.{bitAt, bitsOf, chosen, chosenRecord}
 use Rattle.choice.proofs.Lists.{size-chosen, whole-list, length-list}
 use Rattle.writer.specs.Write.{listIn, blockIn, ListReady, ListWritten, BlockReady, BlockWritten, Writable}
@@ -48,7 +49,7 @@ module _ (list choice : List ℕ) (n i : ℕ) (r : Record) (is : r ≡ chosenRec
 -- ---- the list
 
 pub record Listing (list choice area₀ area : List ℕ) (n i out : ℕ) (o : Open) : Type 0 where
-  pub filling : Filling (encode (listIn list choice)) area₀ area out (encode (held o (listFrom list choice n i)))
+  pub filling : Filling (encode (listIn list choice)) area₀ area out (encode (ahead o (listFrom list choice n i)))
   pub sizes : openSize o + whole (recordsFrom list n i) ≤ versionMost
 
 module _ (list choice area₀ : List ℕ) (ready : ListReady list choice area₀) where
@@ -62,12 +63,12 @@ module _ (list choice area₀ : List ℕ) (ready : ListReady list choice area₀
   module _ (area : List ℕ) (n i out : ℕ) (o : Open) (g : Listing list choice area₀ area n i out o) where
     -- r is record i by its choice byte
     module _ (r : Record) (is : r ≡ chosenRecord (bitAt choice i) (recordOf (rowAt list i))) (h : i < n) where
-      to-come : Filling (encode (listIn list choice)) area₀ area out (encode (flushed o r) ++ encode (held (opened o r) (listFrom list choice n (i + 1))))
+      to-come : Filling (encode (listIn list choice)) area₀ area out (encode (flushed o r) ++ encode (ahead (opened o r) (listFrom list choice n (i + 1))))
       to-come =
-          rw (list-split list choice n i r is h, held-join o r (listFrom list choice n (i + 1)), encode-append (flushed o r) (held (opened o r) (listFrom list choice n (i + 1)))) at (g .filling)
+          rw (list-split list choice n i r is h, ahead-join o r (listFrom list choice n (i + 1)), encode-append (flushed o r) (ahead (opened o r) (listFrom list choice n (i + 1)))) at (g .filling)
 
       pub listing-room : out + length (encode (flushed o r)) ≤ length area
-      listing-room = omega (arith, filling-room to-come (ready .room), length-append (encode (flushed o r)) (encode (held (opened o r) (listFrom list choice n (i + 1)))))
+      listing-room = omega (arith, filling-room to-come (ready .room), length-append (encode (flushed o r)) (encode (ahead (opened o r) (listFrom list choice n (i + 1)))))
 
       pub listing-size : openSize o + sizeOf r ≤ versionMost
       listing-size = omega (arith, g .sizes, whole-split list choice n i r is h)
@@ -76,13 +77,13 @@ module _ (list choice area₀ : List ℕ) (ready : ListReady list choice area₀
           → Listing list choice area₀ area′ n (i + 1) out′ o′
       listing-next area′ out′ o′ e f k =
           record {
-            filling = rw k (filling-put (encode (flushed o r)) (encode (held (opened o r) (listFrom list choice n (i + 1)))) to-come (ready .room) area′ out′ e f);
+            filling = rw k (filling-put (encode (flushed o r)) (encode (ahead (opened o r) (listFrom list choice n (i + 1)))) to-come (ready .room) area′ out′ e f);
             sizes = omega (arith, g .sizes, whole-split list choice n i r is h, open-size o r, ap openSize k);
           }
 
     module _ (h : n ≤ i) where
       last : Filling (encode (listIn list choice)) area₀ area out (encode (pending o) ++ [])
-      last = rw (append-nil (encode (pending o)), ← held-none o) (rw (ended) at (g .filling))
+      last = rw (append-nil (encode (pending o)), ← ahead-none o) (rw (ended) at (g .filling))
         where
           ended : listFrom list choice n i ≡ []
           ended = rw (recordsFrom-none list n i h)
@@ -120,7 +121,7 @@ module _ (list choice v block₀ : List ℕ) (ready : BlockReady list choice v b
       pub storing-size : at + sizeOf r ≤ length v
       storing-size = omega (arith, g .sizes, whole-split list choice n i r is h)
 
-      pub storing-match : (s a at′ : ℕ) → r ≡ Match s a → at′ ≡ at + sizeOf r → Storing list choice v block₀ block n (i + 1) at′ out
+      pub storing-match : (s : ℕ) (a : Source) (at′ : ℕ) → r ≡ Match s a → at′ ≡ at + sizeOf r → Storing list choice v block₀ block n (i + 1) at′ out
       storing-match s a at′ m e =
           let f : at′ ≡ at + s = e ∙ ap (λ (x : Record). at + sizeOf x) m in
           record {

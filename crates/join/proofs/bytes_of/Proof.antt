@@ -13,6 +13,9 @@ record-bytes-requires c κs = search needs
 enum-known-record-2 : tie.Need-enum-known-record-2
 enum-known-record-2 c = search needs
 
+mark-byte-requires : tie.Need-mark-byte-requires
+mark-byte-requires c κs = search needs
+
 record-bytes-requires-2 : tie.Need-record-bytes-requires-2
 record-bytes-requires-2 c κs = search needs
 
@@ -20,7 +23,7 @@ returns : tie.Need-returns
 returns c = c .record-bytes .ensures ∙ rw (c .before .before .«record» .given .1)
 
 returns-2 : tie.Need-returns-2
-returns-2 c = c .record-bytes2 .ensures ∙ rw (c .before .before .record2 .given .1)
+returns-2 c = c .record-bytes2 .ensures ∙ rw (c .before .before .before .record2 .given .1, c .before .mark-byte .ensures)
 
 pub bytes-of-spec : {M : Type 1} → statement M
 bytes-of-spec =
@@ -29,6 +32,7 @@ bytes-of-spec =
     enum-known-record
     record-bytes-requires
     enum-known-record-2
+    mark-byte-requires
     record-bytes-requires-2
     returns
     returns-2)

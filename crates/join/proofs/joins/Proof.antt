@@ -21,11 +21,8 @@ enum-told-4 c = search needs
 enum-known-second : tie.Need-enum-known-second
 enum-known-second c = search needs
 
-end-of-requires : tie.Need-end-of-requires
-end-of-requires c κs = search needs
-
-cast-result : tie.Need-cast-result
-cast-result c = search needs
+goes-on-requires : tie.Need-goes-on-requires
+goes-on-requires c κs = search needs
 
 returns : tie.Need-returns
 returns c = search needs
@@ -37,7 +34,7 @@ returns-3 : tie.Need-returns-3
 returns-3 c = search needs
 
 returns-4 : tie.Need-returns-4
-returns-4 c = rw (c .before .before .before .before .before .first .given .1, c .before .before .second .given .1, c .end-of .ensures)
+returns-4 c = rw (c .before .before .before .before .before .first .given .1, c .before .before .second .given .1) (c .goes-on .ensures)
 
 pub joins-spec : {M : Type 1} → statement M
 joins-spec =
@@ -49,8 +46,7 @@ joins-spec =
     enum-known-first
     enum-told-4
     enum-known-second
-    end-of-requires
-    cast-result
+    goes-on-requires
     returns
     returns-2
     returns-3

@@ -1,4 +1,4 @@
--- `linear::kind_of` meets its contract. Assumes nothing.
+-- `linear::kind_of` meets its contract: the record is a held match, new, or another match. Assumes nothing.
 use borrow.Author.Needs.{needs}
 use Rattle.linear.proofs.kind_of.Statement.{statement}
 use Rattle.linear.proofs.kind_of.Tie as tie
@@ -6,14 +6,17 @@ use Rattle.linear.proofs.kind_of.Tie as tie
 enum-told : tie.Need-enum-told
 enum-told c = search needs
 
-enum-told-2 : tie.Need-enum-told-2
-enum-told-2 c = search needs
+enum-known-record : tie.Need-enum-known-record
+enum-known-record c = search needs
 
 returns : tie.Need-returns
-returns c = rw (c .enum-told .given .1)
+returns c = rw (c .before .before .«record» .given .1, c .if1 .taken)
 
 returns-2 : tie.Need-returns-2
-returns-2 c = rw (c .enum-told2 .given .1)
+returns-2 c = rw (c .enum-told .given .1)
+
+returns-3 : tie.Need-returns-3
+returns-3 c = rw (c .before .before .«record» .given .1, c .if1 .left)
 
 pub kind-of-spec : {M : Type 1} → statement M
-kind-of-spec = tie.close (tie.spec enum-told enum-told-2 returns returns-2)
+kind-of-spec = tie.close (tie.spec enum-told enum-known-record returns returns-2 returns-3)

@@ -73,12 +73,15 @@ loop-again c =
     let g = k .args in
     let t = w .weigh in
     let some : 0 < l .i = w .before .before .before .loop-test .taken in
+    let most : ℕ = stepMost * (g .n - l .i) in
+    let kept-in : l .kept .0 ≤ most = omega (arith, l .inv .kept-most, l .inv .in-n) in
+    let stored-in : l .stored .0 ≤ most = omega (arith, l .inv .stored-most, l .inv .in-n) in
     let is = ap₂ (λ (o : Open) (x : Record). turned (g .rates) o x (l .kept .0) (l .stored .0)) (w .before .before .before-at .ensures) (w .before .record-at .ensures) in
     record {
       in-n = search needs;
       same = search needs;
-      kept-most = omega (arith, t .ensures .kept-most, l .inv .stored-most, some);
-      stored-most = omega (arith, t .ensures .stored-most, l .inv .stored-most, some);
+      kept-most = omega (arith, t .ensures .kept-most most kept-in stored-in, some);
+      stored-most = omega (arith, t .ensures .stored-most most kept-in stored-in, some);
       done = t .result .hint ∷ l .inv .done;
       swept = swept-next (l .inv .swept) some (l .inv .in-n) (t .result) (t .ensures .is ∙ is);
       area =

@@ -1,0 +1,50 @@
+-- Document 02, S-6, "Matches that must be held": what partition and pass make of held matches, by their contracts; and that measure, rebuild, check,
+-- show and compare "give the mark no meaning".
+-- Assumes nothing.
+use Prim.Native.Nat.{ℕ}
+use mathlib.Core.Path.{_≡_}
+use mathlib.Core.List.{List}
+use denote.Ref.{RefT}
+use Rattle.format.specs.Refusal.{Accepts}
+use Rattle.format.specs.Record.{recordsOf}
+use Rattle.format.specs.Marks.{unmarked, ties}
+use Rattle.price.specs.declared.Price.{Price}
+use Rattle.measure.specs.Measure.{measured}
+use Rattle.show.specs.Check.{checked}
+use Rattle.show.specs.Show.{shown}
+use Rattle.rebuild.specs.Rebuild.{rebuildAnswer, rebuildArea}
+use Rattle.compare.specs.Compare.{compared}
+use Rattle.choice.specs.Choice.{Bit, listOf}
+use Rattle.choice.specs.Held.{KeepsHeld}
+use Rattle.writer.specs.Decide.{laid}
+use Rattle.call_partition.specs.Partition.{Partitioned}
+use Rattle.call_pass.specs.Pass.{PassMade}
+use Rattle.demand.specs.Demand.{Call, writtenList}
+
+-- ---- partition and pass
+
+-- the choice that the call x wrote: "a held match is always kept"; and a byte that must go on being drawn from the store is drawn from the same address
+-- by a held match of the list that x wrote, and no other byte is
+pub record HeldStay (list v : List ℕ) (x : Call) : Type 0 where
+  pub choice : List Bit
+  pub written : x .after ≡ laid choice (listOf (recordsOf list) choice) v (x .before)
+  pub kept : KeepsHeld (recordsOf list) choice
+  pub tied-alike : ties (recordsOf (writtenList x)) ≡ ties (recordsOf list)
+
+-- whatever meets partition's contract, or pass's, and is accepted
+pub record HeldMatches : Type 0 where
+  pub in-partition : (p : Price) (list v st : List ℕ) (x : Call) → Partitioned p list v st (x .before) (x .answer) (x .after) → Accepts (x .answer) → HeldStay list v x
+  pub in-pass : (p : Price) (list v st : List ℕ) (x : Call) → PassMade p list v st (x .before) (x .answer) (x .after) → Accepts (x .answer) → HeldStay list v x
+
+-- ---- the other calls
+
+-- the answer for a list is the answer for the list without its marks, refused or not; so is the area that rebuild leaves, and the part that is shown
+pub record MarksUnread : Type 0 where
+  pub in-measure : (p : Price) (list : List ℕ) → measured p (unmarked list) ≡ measured p list
+  pub in-rebuild : (list block st area : List ℕ) → rebuildAnswer (unmarked list) block st area ≡ rebuildAnswer list block st area
+  pub in-rebuilt : (list block st area : List ℕ) → rebuildArea (unmarked list) block st area ≡ rebuildArea list block st area
+  pub in-check : (list block st : List ℕ) (k : ℕ) → checked (unmarked list) block st k ≡ checked list block st k
+  pub in-show : (list : List ℕ) (block st : RefT (List ℕ)) (k : ℕ) → shown (unmarked list) block st k ≡ shown list block st k
+  -- of either list
+  pub in-first : (first second block₁ block₂ st : List ℕ) → compared (unmarked first) second block₁ block₂ st ≡ compared first second block₁ block₂ st
+  pub in-second : (first second block₁ block₂ st : List ℕ) → compared first (unmarked second) block₁ block₂ st ≡ compared first second block₁ block₂ st

@@ -1,0 +1,33 @@
+-- The marks of a list, document 02, S-6: the list without them, and what they bind.
+-- Assumes nothing.
+use Prim.Native.Nat.{ℕ, _-_, _%_}
+use mathlib.Core.Bool.{_&&_, cond}
+use mathlib.Core.List.{List, [], _∷_, _++_}
+use lib.Dec.{eqb}
+use lib.ListN.{length, getD, replicate}
+use Rattle.format.specs.declared.Record.{Record}
+use Rattle.format.specs.declared.Record.the-variants.{New, Match}
+use Rattle.format.specs.Record.{from}
+
+-- byte i of a list without its marks: byte 1 of a match, where it is 1, becomes 0; every other byte stays
+abbrev pub unmarkedByte : List ℕ → ℕ → ℕ
+unmarkedByte l i = cond (eqb (i % 12) 1 && eqb (getD l (i - 1) 0) 1 && eqb (getD l i 0) 1) 0 (getD l i 0)
+
+-- the bytes of a list without its marks
+abbrev pub unmarked : List ℕ → List ℕ
+unmarked l = from (unmarkedByte l) 0 (length l)
+
+-- what is said of a byte of the version: it may be stored, or drawn from anywhere; or it "must go on being drawn from the store", from this address
+pub data Tie : Type 0 where
+  free : Tie
+  tied : ℕ → Tie
+
+-- what a record says of each byte that it covers
+abbrev pub tiesOf : Record → List Tie
+tiesOf (New s) = replicate s free
+tiesOf (Match s a) = cond (a .held) (from tied (a .address) s) (replicate s free)
+
+-- what a list says of each byte of the version
+abbrev pub ties : List Record → List Tie
+ties [] = []
+ties (r ∷ l) = tiesOf r ++ ties l
