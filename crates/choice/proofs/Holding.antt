@@ -10,7 +10,7 @@ use Rattle.format.specs.declared.Record.{Record}
 use Rattle.format.specs.declared.Record.the-variants.{New, Match}
 use Rattle.format.specs.Record.{from}
 use Rattle.format.specs.Meaning.{sizeOf}
-use Rattle.format.specs.Marks.{Tie, free, tied, tiesOf, ties}
+use Rattle.format.specs.Marks.{Bond, free, boundTo, bondsOf, bonds}
 use Rattle.format.proofs.Rows.{from-add}
 use Rattle.join.specs.Join.{joins, grown, join}
 use Rattle.join.proofs.Joining.{goes-on}
@@ -27,36 +27,36 @@ keeps-held (Match s a ∷ rs) (b ∷ c) h = (λ e. rw e at (h .0), keeps-held rs
 -- ---- what is said of each byte
 
 -- two that join say together what the joined record says
-ties-grown : (r q : Record) → joins r q ≡ true → tiesOf (grown r (sizeOf q)) ≡ tiesOf r ++ tiesOf q
-ties-grown (New s) (New t) e = sym (replicate-append-replicate s t free)
-ties-grown (New s) (Match t b) e = cc
-ties-grown (Match s a) (New t) e = cc
-ties-grown (Match s a) (Match t b) e = go (a .held) ∙ ap₂ (λ (h : Bool) (n : ℕ). tiesOf (Match s a) ++ cond h (from tied n t) (replicate t free)) (goes-on s a b e .marks) (goes-on s a b e .ends)
+bonds-grown : (r q : Record) → joins r q ≡ true → bondsOf (grown r (sizeOf q)) ≡ bondsOf r ++ bondsOf q
+bonds-grown (New s) (New t) e = sym (replicate-append-replicate s t free)
+bonds-grown (New s) (Match t b) e = cc
+bonds-grown (Match s a) (New t) e = cc
+bonds-grown (Match s a) (Match t b) e = go (a .held) ∙ ap₂ (λ (h : Bool) (n : ℕ). bondsOf (Match s a) ++ cond h (from boundTo n t) (replicate t free)) (goes-on s a b e .marks) (goes-on s a b e .ends)
   where
-    go : (h : Bool) → cond h (from tied (a .address) (s + t)) (replicate (s + t) free)
-        ≡ cond h (from tied (a .address) s) (replicate s free) ++ cond h (from tied (a .address + s) t) (replicate t free)
-    go true = from-add tied (a .address) s t
+    go : (h : Bool) → cond h (from boundTo (a .address) (s + t)) (replicate (s + t) free)
+        ≡ cond h (from boundTo (a .address) s) (replicate s free) ++ cond h (from boundTo (a .address + s) t) (replicate t free)
+    go true = from-add boundTo (a .address) s t
     go false = sym (replicate-append-replicate s t free)
 
-ties-join : (r : Record) (l : List Record) → ties (join r l) ≡ tiesOf r ++ ties l
-ties-join r [] = refl
-ties-join r (q ∷ l) = go (joins r q) refl
+bonds-join : (r : Record) (l : List Record) → bonds (join r l) ≡ bondsOf r ++ bonds l
+bonds-join r [] = refl
+bonds-join r (q ∷ l) = go (joins r q) refl
   where
-    go : (x : Bool) → joins r q ≡ x → ties (cond x (grown r (sizeOf q) ∷ l) (r ∷ q ∷ l)) ≡ tiesOf r ++ (tiesOf q ++ ties l)
-    go true e = ap (λ (k : List Tie). k ++ ties l) (ties-grown r q e) ∙ append-assoc (tiesOf r) (tiesOf q) (ties l)
+    go : (x : Bool) → joins r q ≡ x → bonds (cond x (grown r (sizeOf q) ∷ l) (r ∷ q ∷ l)) ≡ bondsOf r ++ (bondsOf q ++ bonds l)
+    go true e = ap (λ (k : List Bond). k ++ bonds l) (bonds-grown r q e) ∙ append-assoc (bondsOf r) (bondsOf q) (bonds l)
     go false e = refl
 
 -- a record that may be stored says nothing
-ties-chosen : (b : Bit) (r : Record) → May (freedom r) b → tiesOf (chosenRecord b r) ≡ tiesOf r
-ties-chosen keep r h = refl
-ties-chosen store (New s) h = refl
-ties-chosen store (Match s a) h = go (a .held) h
+bonds-chosen : (b : Bit) (r : Record) → May (freedom r) b → bondsOf (chosenRecord b r) ≡ bondsOf r
+bonds-chosen keep r h = refl
+bonds-chosen store (New s) h = refl
+bonds-chosen store (Match s a) h = go (a .held) h
   where
-    go : (x : Bool) → May (cond x (only keep) either) store → replicate s free ≡ cond x (from tied (a .address) s) (replicate s free)
+    go : (x : Bool) → May (cond x (only keep) either) store → replicate s free ≡ cond x (from boundTo (a .address) s) (replicate s free)
     go true k = keep-store (sym k)
     go false k = refl
 
-pub ties-list : (rs : List Record) (c : List Bit) → IsChoice rs c → ties (listOf rs c) ≡ ties rs
-ties-list [] c h = refl
-ties-list (r ∷ rs) [] h = absurd h
-ties-list (r ∷ rs) (b ∷ c) h = ties-join (chosenRecord b r) (listOf rs c) ∙ ap₂ (λ (x y : List Tie). x ++ y) (ties-chosen b r (h .0)) (ties-list rs c (h .1))
+pub bonds-list : (rs : List Record) (c : List Bit) → IsChoice rs c → bonds (listOf rs c) ≡ bonds rs
+bonds-list [] c h = refl
+bonds-list (r ∷ rs) [] h = absurd h
+bonds-list (r ∷ rs) (b ∷ c) h = bonds-join (chosenRecord b r) (listOf rs c) ∙ ap₂ (λ (x y : List Bond). x ++ y) (bonds-chosen b r (h .0)) (bonds-list rs c (h .1))

@@ -18,7 +18,7 @@ use Rattle.format.specs.declared.Answer.the-variants.{Accepted, Refused}
 use Rattle.format.specs.Refusal.{refuse, need, _then_, answer, Accepts, lengthOnly, figuresIn}
 use Rattle.format.specs.Record.{recordsOf, encode}
 use Rattle.format.specs.Meaning.{whole, blockOf, rebuilt}
-use Rattle.format.proofs.Rulings.{fine-of-then}
+use Rattle.format.proofs.Rulings.{fine-of-then, fine-of-accepts}
 use Rattle.format.proofs.Encoding.{records-encode}
 use Rattle.walk.proofs.Equality.{same-refl, same-of-eq, not-same, same-sym}
 use Rattle.price.specs.declared.Price.{Price}
@@ -42,10 +42,6 @@ use Rattle.call_pass.specs.Pass.{passChoiceOf, passLooksOf}
 use Rattle.demand.specs.Demand.{Call, Rebuilding, writtenList, writtenBlock}
 use Rattle.demand.specs.Comparing.{Rebuilds, writtenVersion, ComparingLaws}
 use Rattle.demand.proofs.WrittenList.{whole-written, inputs-accepted, rebuilt-written}
-
-fine-of-accepts : (q : Ruling) (x : Figures) → Accepts (answer q x) → q ≡ Fine
-fine-of-accepts Fine x h = refl
-fine-of-accepts (Stop r) x h = absurd h
 
 -- an accepted call of rebuild
 module _ (list block st : List ℕ) (x : Rebuilding) (h : Rebuilds list block st x) where

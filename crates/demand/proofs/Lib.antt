@@ -7,3 +7,4 @@ pub mod FormerHolds
 pub mod LoneHolds
 pub mod ComparingHolds
 pub mod NoRunsHolds
+pub mod MarksHolds

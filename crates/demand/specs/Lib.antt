@@ -6,3 +6,4 @@ pub mod Former
 pub mod Lone
 pub mod Comparing
 pub mod NoRuns
+pub mod Marks

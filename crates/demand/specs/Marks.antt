@@ -3,12 +3,16 @@
 -- Assumes nothing.
 use Prim.Native.Nat.{ℕ}
 use mathlib.Core.Path.{_≡_}
+use mathlib.Core.Bool.{true}
 use mathlib.Core.List.{List}
 use denote.Ref.{RefT}
+use Rattle.format.specs.declared.Source.{Source}
+use Rattle.format.specs.declared.Record.the-variants.{Match}
 use Rattle.format.specs.Refusal.{Accepts}
 use Rattle.format.specs.Record.{recordsOf}
-use Rattle.format.specs.Marks.{unmarked, ties}
+use Rattle.format.specs.Marks.{unmarked, bonds}
 use Rattle.price.specs.declared.Price.{Price}
+use Rattle.price.specs.declared.Rates.{Rates}
 use Rattle.measure.specs.Measure.{measured}
 use Rattle.show.specs.Check.{checked}
 use Rattle.show.specs.Show.{shown}
@@ -18,6 +22,8 @@ use Rattle.choice.specs.Choice.{Bit, listOf}
 use Rattle.choice.specs.Held.{KeepsHeld}
 use Rattle.writer.specs.Decide.{laid}
 use Rattle.call_partition.specs.Partition.{Partitioned}
+use Rattle.rules.specs.Rules.{neither, testsOf, Untouched}
+use Rattle.linear.specs.Pass.{itemFor}
 use Rattle.call_pass.specs.Pass.{PassMade}
 use Rattle.demand.specs.Demand.{Call, writtenList}
 
@@ -29,12 +35,13 @@ pub record HeldStay (list v : List ℕ) (x : Call) : Type 0 where
   pub choice : List Bit
   pub written : x .after ≡ laid choice (listOf (recordsOf list) choice) v (x .before)
   pub kept : KeepsHeld (recordsOf list) choice
-  pub tied-alike : ties (recordsOf (writtenList x)) ≡ ties (recordsOf list)
+  pub bonds-alike : bonds (recordsOf (writtenList x)) ≡ bonds (recordsOf list)
 
--- whatever meets partition's contract, or pass's, and is accepted
+-- whatever meets partition's contract, or pass's, and is accepted; and in a look of the pass, where a held match is of neither kind, "no merge touches it"
 pub record HeldMatches : Type 0 where
   pub in-partition : (p : Price) (list v st : List ℕ) (x : Call) → Partitioned p list v st (x .before) (x .answer) (x .after) → Accepts (x .answer) → HeldStay list v x
   pub in-pass : (p : Price) (list v st : List ℕ) (x : Call) → PassMade p list v st (x .before) (x .answer) (x .after) → Accepts (x .answer) → HeldStay list v x
+  pub in-look : (r : Rates) (s : ℕ) (a : Source) → a .held ≡ true → (itemFor (Match s a) ≡ neither s) × Untouched (testsOf r) s
 
 -- ---- the other calls
 

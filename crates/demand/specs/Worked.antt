@@ -1,13 +1,15 @@
 -- The worked examples as one table: the price and the list; the least choice and its cost; the pass's cost and looks. Document 01's (its sheets A to
 -- J), at EN = EM = 10 and F 256; then one list at F 256, 384 and 512, where the factor between two whole ones has a least choice that neither of them
--- has; then lists at F 256 where a new entry is cheaper or dearer than a match; then lists where a match goes on in the store (document 02, S-4). And
--- the lists that some choices make of such lists.
+-- has; then lists at F 256 where a new entry is cheaper or dearer than a match; then lists where a match goes on in the store (document 02, S-4); then
+-- lists with held matches (S-6). And the lists that some choices make of such lists.
 -- Assumes nothing.
 use Prim.Native.Nat.{ℕ, _*_}
 use mathlib.Core.Path.{_≡_}
 use mathlib.Core.List.{List, [], _∷_, map}
+use Rattle.format.specs.declared.Source.{Source}
 use Rattle.format.specs.declared.Record.{Record}
 use Rattle.format.specs.declared.Record.the-variants.{New, Match}
+use Rattle.format.specs.Record.{freeAt, heldAt}
 use Rattle.price.specs.declared.Price.{Price}
 use Rattle.price.specs.declared.Rates.{Rates}
 use Rattle.price.specs.Price.{ratesOf}
@@ -41,9 +43,9 @@ between = New 1 ∷ Match 12 (freeAt 0) ∷ Match 60 (freeAt 50) ∷ Match 17 (f
 abbrev pub lone : List Record
 lone = Match 20 (freeAt 0) ∷ Match 4 (freeAt 50) ∷ Match 20 (freeAt 90) ∷ []
 
--- N5 M14 M14 N5, the second match at an address
-abbrev pub parts : ℕ → List Record
-parts a = New 5 ∷ Match 14 (freeAt 0) ∷ Match 14 (freeAt a) ∷ New 5 ∷ []
+-- N5 M14 M14 N5, the matches drawn from a and b
+abbrev pub parts : Source → Source → List Record
+parts a b = New 5 ∷ Match 14 a ∷ Match 14 b ∷ New 5 ∷ []
 
 -- M20 M4 M20, each match going on where the one before it ended
 abbrev pub running : List Record
@@ -78,14 +80,23 @@ table =
     ∷ worked (price 1 10 256) (Match 6 (freeAt 0) ∷ Match 6 (freeAt 50) ∷ Match 6 (freeAt 90) ∷ []) (store ∷ store ∷ store ∷ []) 4864 4864 4
     ∷ worked (price 12 10 256) (Match 4 (freeAt 0) ∷ Match 4 (freeAt 50) ∷ Match 4 (freeAt 90) ∷ []) (store ∷ store ∷ store ∷ []) 6144 7680 3
     -- a run is kept whose parts, where they do not go on, are stored
-    ∷ inBytes (parts 14) (store ∷ keep ∷ keep ∷ store ∷ []) 40 40 3
-    ∷ inBytes (parts 50) (store ∷ store ∷ store ∷ store ∷ []) 48 50 4
+    ∷ inBytes (parts (freeAt 0) (freeAt 14)) (store ∷ keep ∷ keep ∷ store ∷ []) 40 40 3
+    ∷ inBytes (parts (freeAt 0) (freeAt 50)) (store ∷ store ∷ store ∷ store ∷ []) 48 50 4
     -- to store the middle of a run would cost two entries more, where it is worth it in `lone`
     ∷ worked (price 1 10 256) running (keep ∷ keep ∷ keep ∷ []) 2560 2560 1
     -- a new record cuts a run
     ∷ inBytes cutRun (keep ∷ store ∷ keep ∷ []) 35 35 3
     -- to store all would cost as much: the tie goes to 0 at the first record as handed in, and each record has its byte
     ∷ inBytes tied (keep ∷ keep ∷ store ∷ store ∷ []) 22 22 3
+    -- a held match is kept where it would be stored: sheet C's list, without a merge
+    ∷ inBytes (New 5 ∷ Match 19 (heldAt 0) ∷ New 5 ∷ []) (store ∷ keep ∷ store ∷ []) 40 40 3
+    -- a held match between two that would have fused with it, on sheet H's list; and a match before a held one, which is stored
+    ∷ inBytes (Match 4 (freeAt 0) ∷ Match 4 (heldAt 50) ∷ Match 4 (freeAt 90) ∷ []) (keep ∷ keep ∷ keep ∷ []) 30 30 3
+    ∷ inBytes (New 5 ∷ Match 4 (freeAt 0) ∷ Match 4 (heldAt 4) ∷ []) (store ∷ store ∷ keep ∷ []) 29 29 3
+    -- two neighbours that go on in the store are one record with equal marks, and two with different ones
+    ∷ inBytes (parts (heldAt 0) (heldAt 14)) (store ∷ keep ∷ keep ∷ store ∷ []) 40 40 3
+    ∷ inBytes (parts (freeAt 0) (heldAt 14)) (store ∷ keep ∷ keep ∷ store ∷ []) 50 50 4
+    ∷ inBytes (parts (heldAt 0) (freeAt 14)) (store ∷ keep ∷ keep ∷ store ∷ []) 50 50 4
     ∷ []
 
 -- the rates of an example
@@ -109,17 +120,20 @@ pub record Making : Type 0 where
 abbrev pub making : List Record → List Bit → List Record → ℕ → Making
 making l c m n = record { list = l; choice = c; made = m; cost = n }
 
--- costs in disk bytes, times 256; the middle of a run is stored for two entries and its 4 bytes, and the last two rows are the tie
+-- costs in disk bytes, times 256; the middle of a run is stored for two entries and its 4 bytes, the tie is two rows, and held matches come last
 abbrev pub makings : List Making
 makings =
-    making (parts 14) (store ∷ keep ∷ keep ∷ store ∷ []) (New 5 ∷ Match 28 (freeAt 0) ∷ New 5 ∷ []) (256 * 40)
-    ∷ making (parts 50) (store ∷ keep ∷ keep ∷ store ∷ []) (parts 50) (256 * 50)
+    making (parts (freeAt 0) (freeAt 14)) (store ∷ keep ∷ keep ∷ store ∷ []) (New 5 ∷ Match 28 (freeAt 0) ∷ New 5 ∷ []) (256 * 40)
+    ∷ making (parts (freeAt 0) (freeAt 50)) (store ∷ keep ∷ keep ∷ store ∷ []) (parts (freeAt 0) (freeAt 50)) (256 * 50)
     ∷ making running (keep ∷ keep ∷ keep ∷ []) (Match 44 (freeAt 0) ∷ []) (256 * 10)
     ∷ making running (keep ∷ store ∷ keep ∷ []) (Match 20 (freeAt 0) ∷ New 4 ∷ Match 20 (freeAt 24) ∷ []) (256 * 34)
     ∷ making running (store ∷ store ∷ keep ∷ []) (New 24 ∷ Match 20 (freeAt 24) ∷ []) (256 * 44)
     ∷ making cutRun (keep ∷ store ∷ keep ∷ []) cutRun (256 * 35)
     ∷ making tied (keep ∷ keep ∷ store ∷ store ∷ []) (Match 10 (freeAt 0) ∷ New 2 ∷ []) (256 * 22)
     ∷ making tied (store ∷ store ∷ store ∷ store ∷ []) (New 12 ∷ []) (256 * 22)
+    ∷ making (parts (heldAt 0) (heldAt 14)) (store ∷ keep ∷ keep ∷ store ∷ []) (New 5 ∷ Match 28 (heldAt 0) ∷ New 5 ∷ []) (256 * 40)
+    ∷ making (parts (freeAt 0) (heldAt 14)) (store ∷ keep ∷ keep ∷ store ∷ []) (parts (freeAt 0) (heldAt 14)) (256 * 50)
+    ∷ making (parts (freeAt 0) (heldAt 14)) (store ∷ store ∷ keep ∷ store ∷ []) (New 19 ∷ Match 14 (heldAt 14) ∷ New 5 ∷ []) (256 * 54)
     ∷ []
 
 -- as the definitions have it

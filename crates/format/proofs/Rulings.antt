@@ -10,7 +10,7 @@ use Rattle.format.specs.declared.Ruling.{Ruling}
 use Rattle.format.specs.declared.Ruling.the-variants.{Fine, Stop}
 use Rattle.format.specs.declared.Figures.{Figures}
 use Rattle.format.specs.declared.Answer.the-variants.{Accepted, Refused}
-use Rattle.format.specs.Refusal.{need, _then_, answer}
+use Rattle.format.specs.Refusal.{need, _then_, answer, Accepts}
 
 pub stop-fine : {A : Type 0} {x : Refusal} → Stop x ≡ Fine → A
 stop-fine e = absurd (let z : _≡_ {A = ℕ} 0 1 = cc in omega arith)
@@ -44,3 +44,8 @@ fine-of-accepted (Stop r) x y e = absurd (let z : _≡_ {A = ℕ} 0 1 = cc in om
 pub stop-of-refused : (q : Ruling) (x : Figures) (r : Refusal) → answer q x ≡ Refused r → q ≡ Stop r
 stop-of-refused Fine x r e = absurd (let z : _≡_ {A = ℕ} 0 1 = cc in omega arith)
 stop-of-refused (Stop y) x r e = cc
+
+-- an accepted call has found no fault
+pub fine-of-accepts : (q : Ruling) (x : Figures) → Accepts (answer q x) → q ≡ Fine
+fine-of-accepts Fine x h = refl
+fine-of-accepts (Stop r) x h = absurd h

@@ -18,16 +18,16 @@ abbrev pub unmarked : List ℕ → List ℕ
 unmarked l = from (unmarkedByte l) 0 (length l)
 
 -- what is said of a byte of the version: it may be stored, or drawn from anywhere; or it "must go on being drawn from the store", from this address
-pub data Tie : Type 0 where
-  free : Tie
-  tied : ℕ → Tie
+pub data Bond : Type 0 where
+  free : Bond
+  boundTo : ℕ → Bond
 
 -- what a record says of each byte that it covers
-abbrev pub tiesOf : Record → List Tie
-tiesOf (New s) = replicate s free
-tiesOf (Match s a) = cond (a .held) (from tied (a .address) s) (replicate s free)
+abbrev pub bondsOf : Record → List Bond
+bondsOf (New s) = replicate s free
+bondsOf (Match s a) = cond (a .held) (from boundTo (a .address) s) (replicate s free)
 
 -- what a list says of each byte of the version
-abbrev pub ties : List Record → List Tie
-ties [] = []
-ties (r ∷ l) = tiesOf r ++ ties l
+abbrev pub bonds : List Record → List Bond
+bonds [] = []
+bonds (r ∷ l) = bondsOf r ++ bonds l

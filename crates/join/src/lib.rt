@@ -55,7 +55,10 @@ fn bytes_of(record: Record) -> [u8; 12]
 {
     match record {
         Record::New(size) => record_bytes(0, 0, size, 0),
-        Record::Match(size, source) => record_bytes(1, mark_byte(source.held), size, source.address),
+        Record::Match(size, source) => {
+            let mark = mark_byte(source.held);
+            record_bytes(1, mark, size, source.address)
+        }
     }
 }
 

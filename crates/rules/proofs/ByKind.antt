@@ -8,7 +8,7 @@ use borrow.Author.Tests.{eqb-true}
 use Rattle.rules.specs.declared.Merge.the-variants.{Both, Before, After, Pair}
 use Rattle.rules.specs.declared.Outcome.{Outcome}
 use Rattle.rules.specs.declared.Outcome.the-variants.{Advance, Merged}
-use Rattle.rules.specs.Rules.{Item, new, match, neither, size, isNew, isMatch, Tests, outcomeAt, itemOf}
+use Rattle.rules.specs.Rules.{Item, new, match, neither, size, isNew, isMatch, Tests, outcomeAt, fusesBefore, fusesAfter, Untouched, itemOf}
 
 pub size-item : (k s : ℕ) → size (itemOf k s) ≡ s
 size-item k s = go (eqb k 0) (eqb k 1)
@@ -62,3 +62,35 @@ outcome-by t kb sb k s ka sa c = simp (new-item, match-item, size-item)
 -- what is no match is passed by
 pub outcome-no-match : (t : Tests) (b p a c : Item) → isMatch p ≡ false → outcomeAt t b p a c ≡ Advance
 outcome-no-match t b p a c h = simp h
+
+-- one of neither kind is fused by no look
+pub untouched : (t : Tests) (s : ℕ) → Untouched t s
+untouched t s = record { as-p = λ b a c. refl; as-before = before; as-after = after }
+  where
+    after-only : (v : Bool) (n : ℕ) → fusesBefore (cond v (Merged (After n)) Advance) ≡ false
+    after-only true n = refl
+    after-only false n = refl
+
+    pair-only : (v : Bool) (n : ℕ) → fusesBefore (cond v (Merged (Pair n)) Advance) ≡ false
+    pair-only true n = refl
+    pair-only false n = refl
+
+    before-only : (v : Bool) (n : ℕ) → fusesAfter (cond v (Merged (Before n)) Advance) ≡ false
+    before-only true n = refl
+    before-only false n = refl
+
+    before : (p a c : Item) → fusesBefore (outcomeAt t (neither s) p a c) ≡ false
+    before (new u) a c = refl
+    before (neither u) a c = refl
+    before (match u) (new v) c = after-only (t .side u) (u + v)
+    before (match u) (match v) (new w) = refl
+    before (match u) (match v) (match w) = pair-only (t .pair (u + v)) (u + v)
+    before (match u) (match v) (neither w) = pair-only (t .pair (u + v)) (u + v)
+    before (match u) (neither v) c = refl
+
+    after : (b p c : Item) → fusesAfter (outcomeAt t b p (neither s) c) ≡ false
+    after b (new u) c = refl
+    after b (neither u) c = refl
+    after (new v) (match u) c = before-only (t .side u) (v + u)
+    after (match v) (match u) c = refl
+    after (neither v) (match u) c = refl

@@ -2,6 +2,7 @@
 -- an item as a kind and a size hold it.
 -- Assumes nothing.
 use Prim.Native.Nat.{ℕ, _+_, _*_}
+use mathlib.Core.Path.{_≡_}
 use mathlib.Core.Bool.{Bool, true, false, not, _&&_, cond}
 use lib.Dec.{eqb, ltb}
 use Rattle.price.specs.declared.Rates.{Rates}
@@ -72,6 +73,27 @@ outcomeAt t b p a c =
     (cond (isMatch p && isNew a && t .side (size p)) (Merged (After (size p + size a)))
     (cond (isMatch p && isMatch a && not (isNew b) && not (isNew c) && t .pair (size p + size a)) (Merged (Pair (size p + size a)))
     Advance)))
+
+-- whether a look fuses the one before p, and whether it fuses the one after
+abbrev pub fusesBefore : Outcome → Bool
+fusesBefore Advance = false
+fusesBefore (Merged (Both s)) = true
+fusesBefore (Merged (Before s)) = true
+fusesBefore (Merged (After s)) = false
+fusesBefore (Merged (Pair s)) = false
+
+abbrev pub fusesAfter : Outcome → Bool
+fusesAfter Advance = false
+fusesAfter (Merged (Both s)) = true
+fusesAfter (Merged (Before s)) = false
+fusesAfter (Merged (After s)) = true
+fusesAfter (Merged (Pair s)) = true
+
+-- an item of neither kind, of s bytes, is fused by no look: neither where it is p nor where it stands before p or after p
+pub record Untouched (t : Tests) (s : ℕ) : Type 0 where
+  pub as-p : (b a c : Item) → outcomeAt t b (neither s) a c ≡ Advance
+  pub as-before : (p a c : Item) → fusesBefore (outcomeAt t (neither s) p a c) ≡ false
+  pub as-after : (b p c : Item) → fusesAfter (outcomeAt t b p (neither s) c) ≡ false
 
 -- ---- an item as a cell
 
