@@ -39,9 +39,13 @@
  *
  *   OFFSET  SIZE  FIELD
  *   0       1     kind: 0 new, 1 match
- *   1       3     zero
+ *   1       1     mark: 1 where a match is held, else zero; zero in a new record
+ *   2       2     zero
  *   4       4     size: bytes covered, 1 or more, lowest byte first
  *   8       4     address: where a match begins in the store; zero in a new record
+ *
+ * A HELD MATCH must go on being drawn from the store: partition and pass always keep it. It joins the match before or after it only where
+ * that one is held too, and what they write carries the mark. To measure, rebuild, check and compare the mark means nothing.
  *
  * THE NUMBERS, by their cause:
  *
@@ -53,7 +57,7 @@
  *   11  there is no record k
  *   the finder of matches
  *    3  the list's length is no multiple of 12, or over 49,152
- *    4  a record of other kind, with a nonzero byte 1 to 3, of size 0, or a new record with an address
+ *    4  a record of other kind, with a byte 1 over 1 or a nonzero byte 2 or 3, of size 0, or a new record with a mark or an address
  *    5  a new record right after a new one
  *    6  the sizes pass the version's length (in measure, rebuild, check and compare: 16,777,216) at this record; or, in partition
  *       and pass, they end short of it (place: the number of records)
@@ -76,7 +80,7 @@ extern "C" {
 #define ANSWER_BYTES 32
 
 /* The version of this library: it grows when a call, an answer or a number changes. */
-#define CONTROLLER_VERSION 5
+#define CONTROLLER_VERSION 6
 
 /* EN and EM are 1 to E_MOST, F is 1 to F_MOST. */
 #define E_MOST 255
@@ -85,9 +89,10 @@ extern "C" {
 /* What a disk byte costs: F and costs are in parts of it. */
 #define DISK_BYTE 256
 
-/* The kinds of a record. */
+/* The kinds of a record, and the mark of a held match. */
 #define KIND_NEW 0
 #define KIND_MATCH 1
+#define MARK_HELD 1
 
 /* Bytes of one record, and the most records of a list. */
 #define RECORD_BYTES 12
@@ -207,10 +212,10 @@ uint32_t compare(const uint8_t *first, size_t first_len,
 
 /* partition - the list that costs least.
  *
- * Does: of all ways to keep each match or to store its bytes again, takes the one whose list costs least at the price of EN, EM and F,
- *   new records that come to stand next to each other fused, and kept matches too where the second begins in the store where the first ends:
- *   such a run is one record and one entry, with the first's address and the sizes together. Of several that cost the same it takes the one that
- *   keeps at the first record where they differ.
+ * Does: of all ways to keep each match or to store its bytes again, held ones kept, takes the one whose list costs least at the price of EN, EM
+ *   and F, new records that come to stand next to each other fused, and kept matches too where the second begins in the store where the first
+ *   ends and both are held or neither is: such a run is one record and one entry, with the first's address and mark and the sizes together. Of
+ *   several that cost the same it takes the one that keeps at the first record where they differ.
  * Areas: version, the bytes to be kept; store, the old data; list, which describes version against store; choice, 1 byte for each
  *   record; list_area, as long as list; block_area, as long as version.
  * Writes: the first bytes of choice, one for each record handed in (0 kept as match, 1 new); the first bytes of list_area, the new list, 12 for
@@ -232,8 +237,8 @@ uint32_t partition(uint32_t en, uint32_t em, uint32_t f,
  *
  * Does: joins the runs of matches that go on in the store, as partition does; then moves a cursor over the list, and merges a short match into
  *   new neighbours, or two short matches into a new record, by the five rules of docs/SPECIFICATION.md ("Pass"); one look at a record at a time,
- *   at most 2n - 1 of them for n records, each run counted as one. It never stores a match that stands alone, which may be worth it where EN is
- *   less than EM.
+ *   at most 2n - 1 of them for n records, each run counted as one. A held match is looked at and passed by, and merged with nothing. It never
+ *   stores a match that stands alone, which may be worth it where EN is less than EM.
  * Areas, writes, refuses, on refusal, returns: as for partition. answer also gives the looks. The list costs no less than partition's
  *   and no more than the one handed in, as measure prices that. It is no faster: on 4,096 short records it takes four to twenty times as long as partition. */
 uint32_t pass(uint32_t en, uint32_t em, uint32_t f,

@@ -10,6 +10,14 @@ const LIST: [u8; 36] =
 const MATCHES: [u8; 36] =
     *b"\x01\0\0\0\x03\0\0\0\0\0\0\0\0\0\0\0\x01\0\0\0\0\0\0\0\x01\0\0\0\x02\0\0\0\x07\0\0\0";
 
+// M3@0 held, N1, M2@7 held.
+const HELD: [u8; 36] =
+    *b"\x01\x01\0\0\x03\0\0\0\0\0\0\0\0\0\0\0\x01\0\0\0\0\0\0\0\x01\x01\0\0\x02\0\0\0\x07\0\0\0";
+
+// N5 M5@15, the new record marked; and M5@15 with a byte 1 of 2.
+const MARKED_NEW: [u8; 24] = *b"\0\x01\0\0\x05\0\0\0\0\0\0\0\x01\0\0\0\x05\0\0\0\x0f\0\0\0";
+const MARK_OF_2: [u8; 12] = *b"\x01\x02\0\0\x05\0\0\0\x0f\0\0\0";
+
 // N5 M5@16, which runs beyond the store.
 const BEYOND: [u8; 24] = *b"\0\0\0\0\x05\0\0\0\0\0\0\0\x01\0\0\0\x05\0\0\0\x10\0\0\0";
 
@@ -36,6 +44,9 @@ fn parts() {
     case(b"a later new record", &LIST, b"abcdefgh", 2);
     case(b"a match at 0", &MATCHES, b"a", 0);
     case(b"a later match", &MATCHES, b"a", 2);
+    case(b"a held match at 0", &HELD, b"a", 0);
+    case(b"a new record between held matches", &HELD, b"a", 1);
+    case(b"a later held match", &HELD, b"a", 2);
 }
 
 // An empty part where check refuses.
@@ -44,6 +55,8 @@ fn empty_parts() {
     case(b"a block one byte short", &LIST, b"abcdefg", 0);
     case(b"a block one byte longer", &LIST, b"abcdefghi", 0);
     case(b"record 1 beyond the store", &BEYOND, b"abcde", 0);
+    case(b"a mark on a new record", &MARKED_NEW, b"abcde", 1);
+    case(b"a byte 1 of 2", &MARK_OF_2, b"", 0);
     case(b"a list of 35 bytes", &LIST[0..35], b"abcdefgh", 0);
     case(b"no records", b"", b"", 0);
 }
