@@ -16,6 +16,7 @@ const HELD: [u8; 36] =
 
 // N5 M5@15, the new record marked; and M5@15 with a byte 1 of 2.
 const MARKED_NEW: [u8; 24] = *b"\0\x01\0\0\x05\0\0\0\0\0\0\0\x01\0\0\0\x05\0\0\0\x0f\0\0\0";
+
 const MARK_OF_2: [u8; 12] = *b"\x01\x02\0\0\x05\0\0\0\x0f\0\0\0";
 
 // N5 M5@16, which runs beyond the store.
