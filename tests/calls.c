@@ -1,9 +1,10 @@
 /* calls.c - the calls of controller.h, case by case, against what is worked out by hand from docs/SPECIFICATION.md.
  *
- * Lists are written as text: "N5 M19@0" is a new record of 5 bytes and a match of 19 at address 0. A record may be as wrong as a case
- * needs it: X is kind 2, N may have an address, and "!2" sets byte 2 to 7. Every area is longer than what a case lends of it and is
- * filled beforehand, and after the call it is looked at to its last byte: what the call should not write must still hold the filling.
- * For each size up to 136 one case each of partition, pass and compare lets a match differ at every byte, at every pair of places within a word.
+ * Lists are written as text: "N5 M19@0" is a new record of 5 bytes and a match of 19 at address 0, "H19@0" such a match held. A record may be as
+ * wrong as a case needs it: X is kind 2, N may have an address, "!2" sets byte 2 to 7, and "!2=9" sets it to 9. Every area is longer than what a
+ * case lends of it and is filled beforehand, and after the call it is looked at to its last byte: what the call should not write must still hold
+ * the filling. The list that partition wrote is handed in again, and must come back. For each size up to 136 one case each of partition, pass and
+ * compare lets a match differ at every byte, at every pair of places within a word.
  * Exit 0 and one line, with the number of cases, where all is as it should be, else 1 and a line for each case that is not.
  */
 #include <stdio.h>
@@ -12,7 +13,7 @@
 
 #include "controller.h"
 
-#define CASES 744
+#define CASES 917
 #define FILL 0xA5
 #define AREA 256
 
@@ -45,14 +46,17 @@ static size_t list_of(const char *text, uint8_t *list)
 {
     size_t n = 0;
     while (*text) {
-        uint8_t kind = *text == 'N' ? KIND_NEW : *text == 'M' ? KIND_MATCH : 2;
+        uint8_t kind = *text == 'N' ? KIND_NEW : *text == 'M' || *text == 'H' ? KIND_MATCH : 2;
         char *end;
         uint32_t size = (uint32_t)strtoul(text + 1, &end, 10), address = 0;
         if (*end == '@')
             address = (uint32_t)strtoul(end + 1, &end, 10);
         put_record(list, n, kind, size, address);
-        if (*end == '!')
-            list[RECORD_BYTES * n + strtoul(end + 1, &end, 10)] = 7;
+        list[RECORD_BYTES * n + 1] = *text == 'H';
+        if (*end == '!') {
+            uint8_t *byte = list + RECORD_BYTES * n + strtoul(end + 1, &end, 10);
+            *byte = *end == '=' ? (uint8_t)strtoul(end + 1, &end, 10) : 7;
+        }
         n++;
         text = end + (*end == ' ');
     }
@@ -164,6 +168,8 @@ static const struct {
     { "EN 7, EM 1, one new and two matches", 7, 1, 512, "M8@0 N4 M8@0", { .cost = 5632, .entries = 3, .stored = 4, .whole = 20 } },
     { "EN 255, EM 1, F 65535", 255, 1, 65535, "N9 M8@0 N7", { .cost = 33492481, .entries = 3, .stored = 16, .whole = 24 } },
     { "EN 1, EM 255, F 65535", 1, 255, 65535, "N9 M8@0 N7", { .cost = 16846591, .entries = 3, .stored = 16, .whole = 24 } },
+    { "both kinds, one match held", 10, 10, 256, "N5 H19@0 M4@7 N7", { .cost = DISK_BYTE * 52, .entries = 4, .stored = 12, .whole = 35 } },
+    { "matches that go on, two held", 10, 10, 256, "M8@0 H8@8 H8@16", { .cost = DISK_BYTE * 30, .entries = 3, .whole = 24 } },
     { "EN 0", 0, 10, 256, "N5", { .number = 1 } },
     { "EN 256", 256, 10, 256, "N5", { .number = 1 } },
     { "EM 0", 10, 0, 256, "N5", { .number = 1 } },
@@ -177,6 +183,13 @@ static const struct {
     { "byte 1 of a match", 10, 10, 256, "N5 M5@0!1", { .number = 4, .place = 1 } },
     { "byte 2 of a match", 10, 10, 256, "N5 M5@0!2", { .number = 4, .place = 1 } },
     { "byte 3 of a match", 10, 10, 256, "N5 M5@0!3", { .number = 4, .place = 1 } },
+    { "a mark on a new record", 10, 10, 256, "M5@0 N5!1=1", { .number = 4, .place = 1 } },
+    { "byte 1 of a match at 2", 10, 10, 256, "N5 M5@0!1=2", { .number = 4, .place = 1 } },
+    { "byte 1 of a match at 255", 10, 10, 256, "N5 M5@0!1=255", { .number = 4, .place = 1 } },
+    { "byte 2 of a held match", 10, 10, 256, "N5 H5@0!2", { .number = 4, .place = 1 } },
+    { "byte 3 of a held match", 10, 10, 256, "N5 H5@0!3", { .number = 4, .place = 1 } },
+    { "kind 2 with the mark", 10, 10, 256, "N5 X5@0!1=1", { .number = 4, .place = 1 } },
+    { "a held match of size 0", 10, 10, 256, "N5 H0@0", { .number = 4, .place = 1 } },
     { "a new record of size 0", 10, 10, 256, "N0", { .number = 4 } },
     { "a match of size 0", 10, 10, 256, "N5 M6@0 M0@0", { .number = 4, .place = 2 } },
     { "new with address 1", 10, 10, 256, "N5@1", { .number = 4 } },
@@ -189,6 +202,8 @@ static const struct {
     { "sizes that pass 2^32", 10, 10, 256, "N1 M4294967295@0", { .number = 6, .place = 1 } },
     { "1 before 4", 0, 0, 256, "N0", { .number = 1 } },
     { "4 before 5", 10, 10, 256, "N5 N0", { .number = 4, .place = 1 } },
+    { "4 for a mark before 5", 10, 10, 256, "N5 N5!1=1", { .number = 4, .place = 1 } },
+    { "6 at a held match", 10, 10, 256, "N5 H16777216@0", { .number = 6, .place = 1 } },
     { "5 before 6", 10, 10, 256, "N5 N16777216", { .number = 5, .place = 1 } },
     { "4 before 6", 10, 10, 256, "N5 M16777216@0!1", { .number = 4, .place = 1 } },
     { "6 at 1 before 4 at 2", 10, 10, 256, "N5 M16777216@0 N0", { .number = 6, .place = 1 } },
@@ -212,8 +227,9 @@ static void test_measure(void)
 
 static const char letters[] = "ABCDEFGHIJKLMNOPQRST";
 
-/* N5 M5@15 N3, with the stored block "abcdefgh", is "abcdePQRSTfgh". */
+/* N5 M5@15 N3, with the stored block "abcdefgh", is "abcdePQRSTfgh"; and so it is with its match held. */
 #define LIST "N5 M5@15 N3"
+#define LIST_HELD "N5 H5@15 N3"
 #define BLOCK "abcdefgh"
 
 static uint32_t checked(size_t n, const char *block, size_t store_length, uint32_t k)
@@ -231,6 +247,15 @@ static const struct {
     { "a match of 5 at 15 in a store of 20", LIST, BLOCK, 20, 1, 0, 0 },
     { "the last record", LIST, BLOCK, 20, 2, 0, 0 },
     { "a match of all the store", "M20@0", "", 20, 0, 0, 0 },
+    { "a held match", LIST_HELD, BLOCK, 20, 1, 0, 0 },
+    { "a mark on a new record", "N5 M5@15 N3!1=1", BLOCK, 20, 0, 4, 2 },
+    { "byte 1 of a match at 2", "N5 M5@15!1=2 N3", BLOCK, 20, 0, 4, 1 },
+    { "byte 1 of a match at 255", "N5 M5@15!1=255 N3", BLOCK, 20, 0, 4, 1 },
+    { "byte 2 of a held match", "N5 H5@15!2 N3", BLOCK, 20, 0, 4, 1 },
+    { "byte 3 of a held match", "N5 H5@15!3 N3", BLOCK, 20, 0, 4, 1 },
+    { "a held match of 5 at 15 in a store of 19", LIST_HELD, BLOCK, 19, 0, 7, 1 },
+    { "a block one byte short beside a held match", LIST_HELD, "abcdefg", 20, 0, 10, 0 },
+    { "k 3 of 3, one held", LIST_HELD, BLOCK, 20, 3, 11, 0 },
     { "kind 2", "N5 X5@0", "abcde", 20, 0, 4, 1 },
     { "new after new", "N5 N3", BLOCK, 20, 0, 5, 1 },
     { "sizes of 16777217", "N5 M16777212@0", "abcde", 20, 0, 6, 1 },
@@ -279,6 +304,8 @@ static const struct {
     { "in an area one byte longer", LIST, BLOCK, 14, "abcdePQRSTfgh" },
     { "in an area just long enough", LIST, BLOCK, 13, "abcdePQRSTfgh" },
     { "matches alone", "M3@0 M3@3 M3@0", "", AREA, "ABCDEFABC" },
+    { "a held match", LIST_HELD, BLOCK, AREA, "abcdePQRSTfgh" },
+    { "matches alone, two held", "M3@0 H3@3 H3@0", "", AREA, "ABCDEFABC" },
     { "one new record", "N4", "abcd", AREA, "abcd" },
     { "no records", "", "", AREA, "" },
     { "no records in no area", "", "", 0, "" },
@@ -291,6 +318,13 @@ static const struct {
     uint32_t number, place;
 } not_rebuilt[] = {
     { "new with an address", "N5 M5@15 N3@1", BLOCK, AREA, 4, 2 },
+    { "a mark on a new record", "N5 M5@15 N3!1=1", BLOCK, AREA, 4, 2 },
+    { "byte 1 of a match at 2", "N5 M5@15!1=2 N3", BLOCK, AREA, 4, 1 },
+    { "byte 1 of a match at 255", "N5 M5@15!1=255 N3", BLOCK, AREA, 4, 1 },
+    { "byte 2 of a held match", "N5 H5@15!2 N3", BLOCK, AREA, 4, 1 },
+    { "byte 3 of a held match", "N5 H5@15!3 N3", BLOCK, AREA, 4, 1 },
+    { "a held match at 16 in a store of 20", "N5 H5@16 N3", BLOCK, AREA, 7, 1 },
+    { "an area one byte short for a held match", LIST_HELD, BLOCK, 12, 9, 0 },
     { "new after new", "N5 N3", BLOCK, AREA, 5, 1 },
     { "sizes of 16777217", "N5 M16777212@0", "abcde", AREA, 6, 1 },
     { "address 16 in a store of 20", "N5 M5@16 N3", BLOCK, AREA, 7, 1 },
@@ -351,6 +385,15 @@ static const struct {
     { "drawn and stored in several records", "M5@0", "", "N1 M1@6 N1 M1@3 N1", "ACE", YES },
     { "more stored bytes in the second", "N2 M3@2", "AB", "N5", "ABCDE", YES },
     { "a stored block that would fit the first too", "N2 M3@0", "XY", "M2@10 N2 M1@2", "AB", YES },
+    { "a held match in both", "N2 H3@2", "ab", "N2 H3@2", "ab", YES },
+    { "a list and itself without its mark", "N2 H3@2", "ab", "N2 M3@2", "ab", YES },
+    { "a list without its mark and itself", "N2 M3@2", "ab", "N2 H3@2", "ab", YES },
+    { "held, and cut in two of which one is held", "H5@0", "", "M2@0 H3@2", "", YES },
+    { "held, and from another place of the store", "H5@0", "", "M5@5", "", YES },
+    { "held in one and stored in the other", "H5@0", "", "N5", "ABCDE", YES },
+    { "the last byte, held and stored", "H5@0", "", "N5", "ABCDX", NO },
+    { "the first byte, held in both", "H2@0", "", "H2@10", "", NO },
+    { "held in both, the first a prefix of the second", "H4@0", "", "H5@0", "", NO },
     { "the first byte, stored", "N5", "ABCDE", "N5", "XBCDE", NO },
     { "the last byte, stored", "N5", "ABCDE", "N5", "ABCDX", NO },
     { "the last byte, drawn", "M4@0 M1@4", "", "M4@5 M1@10", "", NO },
@@ -372,6 +415,12 @@ static const struct {
     uint32_t number, place;
 } at_fault[] = {
     { "kind 2", "M1@0 X5@0", "", 4, 1 },
+    { "a mark on a new record", "M1@0 N1!1=1", "a", 4, 1 },
+    { "byte 1 of a match at 2", "M1@0 M5@0!1=2", "", 4, 1 },
+    { "byte 1 of a match at 255", "M1@0 M5@0!1=255", "", 4, 1 },
+    { "byte 2 of a held match", "M1@0 H5@0!2", "", 4, 1 },
+    { "byte 3 of a held match", "M1@0 H5@0!3", "", 4, 1 },
+    { "a held match beyond the store", "M5@0 M2@10 H1@12", "", 7, 2 },
     { "new after new", "M1@0 N1 N1", "ab", 5, 2 },
     { "sizes of 16777217", "N1 M16777216@0", "a", 6, 1 },
     { "a match beyond the store", "M5@0 M2@10 M1@12", "", 7, 2 },
@@ -552,9 +601,50 @@ static const struct accepted runs[] = {
       { .cost = 256 * 20, .entries = 2, .looks = 2 } },
 };
 
+/* Held matches, at 10 disk bytes for an entry but where a price is said, and where both take the same choice: a held match is kept whatever it
+ * costs, and for the rules of the pass it is of neither kind. Kept, sheet C costs 30 + 10, sheet F 20 + 1; sheet H with its middle held costs 30, and
+ * 30 + 4 with an end stored. A run of which one half is held stays two records, 40 + 10 between new ones, where 30 + 24 stores the other half.
+ * Beside a held match a match still joins a new record, 20 + 10 against 30 + 1 and 20 + 9 against 30 + 5, and two matches of 4 become one new
+ * record, 20 + 8 against 30; then the pass goes back to the one before, a held one too. At 8 disk bytes for an entry a match of 8 costs the same
+ * kept and stored, 24 + 8 and 16 + 16, and stays. */
+#define VERSION_RUN "01234ABCDEFGHIJKLMNOPQRSTUVWXYZab56789"
+static const struct accepted held[] = {
+    { "sheet C held", AT(10, 256), "N5 H19@0 N5", VERSION_C, "101", "N5 H19@0 N5", "0123456789",
+      { .cost = 256 * 40, .entries = 3, .stored = 10, .looks = 3 } },
+    { "sheet C held, at the greatest price", AT(255, 65535), "N5 H19@0 N5", VERSION_C, "101", "N5 H19@0 N5", "0123456789",
+      { .cost = 3 * 16711425 + 256 * 10, .entries = 3, .stored = 10, .looks = 3 } },
+    { "sheet F held", AT(10, 256), "N1 H9@0", "0ABCDEFGHI", "10", "N1 H9@0", "0", { .cost = 256 * 21, .entries = 2, .stored = 1, .looks = 2 } },
+    { "sheet H, its middle held", AT(10, 256), "M4@8 H4@4 M4@0", "IJKLEFGHABCD", "000", "M4@8 H4@4 M4@0", "",
+      { .cost = 256 * 30, .entries = 3, .looks = 3 } },
+    { "sheet H, its last held", AT(10, 256), "M4@8 M4@4 H4@0", "IJKLEFGHABCD", "110", "N8 H4@0", "IJKLEFGH",
+      { .cost = 256 * 28, .entries = 2, .stored = 8, .looks = 4 } },
+    { "sheet H, its first held", AT(10, 256), "H4@8 M4@4 M4@0", "IJKLEFGHABCD", "011", "H4@8 N8", "EFGHABCD",
+      { .cost = 256 * 28, .entries = 2, .stored = 8, .looks = 4 } },
+    { "a run, its second half held", AT(10, 256), "N5 M14@0 H14@14 N5", VERSION_RUN, "1001", "N5 M14@0 H14@14 N5", "0123456789",
+      { .cost = 256 * 50, .entries = 4, .stored = 10, .looks = 4 } },
+    { "a run, its first half held", AT(10, 256), "N5 H14@0 M14@14 N5", VERSION_RUN, "1001", "N5 H14@0 M14@14 N5", "0123456789",
+      { .cost = 256 * 50, .entries = 4, .stored = 10, .looks = 4 } },
+    { "a run held", AT(10, 256), "N5 H14@0 H14@14 N5", VERSION_RUN, "1001", "N5 H28@0 N5", "0123456789",
+      { .cost = 256 * 40, .entries = 3, .stored = 10, .looks = 3 } },
+    { "a run, its middle held", AT(10, 256), "M4@8 H4@12 M4@16", "IJKLMNOPQRST", "000", "M4@8 H4@12 M4@16", "",
+      { .cost = 256 * 30, .entries = 3, .looks = 3 } },
+    { "a run, its last not held", AT(10, 256), "H4@8 H4@12 M4@16", "IJKLMNOPQRST", "000", "H8@8 M4@16", "",
+      { .cost = 256 * 20, .entries = 2, .looks = 2 } },
+    { "a run, its last held", AT(10, 256), "M4@8 M4@12 H4@16", "IJKLMNOPQRST", "000", "M8@8 H4@16", "",
+      { .cost = 256 * 20, .entries = 2, .looks = 2 } },
+    { "a match that joins a new record before a held one", AT(10, 256), "N1 M9@0 H9@20", "0ABCDEFGHIUVWXYZabc", "110", "N10 H9@20", "0ABCDEFGHI",
+      { .cost = 256 * 30, .entries = 2, .stored = 10, .looks = 3 } },
+    { "a match that joins a new record after a held one", AT(10, 256), "H4@8 M4@4 N5", "IJKLEFGH01234", "011", "H4@8 N9", "EFGH01234",
+      { .cost = 256 * 29, .entries = 2, .stored = 9, .looks = 4 } },
+    { "a lone match held at EN 1, EM 10", PRICED(1, 10, 256), "M20@20 H4@8 M20@0", VERSION_LONE, "000", "M20@20 H4@8 M20@0", "",
+      { .cost = 256 * 30, .entries = 3, .looks = 3 } },
+    { "a tie before a held match", AT(8, 256), "M8@8 N8 H8@0", "IJKLMNOP01234567ABCDEFGH", "010", "M8@8 N8 H8@0", "01234567",
+      { .cost = 256 * 32, .entries = 3, .stored = 8, .looks = 3 } },
+};
+
 /* Where the pass takes another choice than partition. Of sheet I's matches, and at EN 12 of sheet H's, no two are worth merging, but all three
  * are; a lone match is worth storing where 1 + 4 is below 10, and only partition does it. Matches of 14 that do not quite go on, a byte apart or
- * sharing one, are stored, 10 + 38 against 40 + 10, which the pass does not see. */
+ * sharing one, are stored, 10 + 38 against 40 + 10, which the pass does not see. A held match beside them changes nothing of this. */
 static const struct apart {
     struct accepted least, passed;
 } apart[] = {
@@ -578,14 +668,36 @@ static const struct apart {
         "0123456789", { .cost = 256 * 50, .entries = 4, .stored = 10, .looks = 4 } } },
     { { "one match at EN 1, EM 10", PRICED(1, 10, 256), "M4@0", "ABCD", "1", "N4", "ABCD", { .cost = 256 * 5, .entries = 1, .stored = 4 } },
       { "one match at EN 1, EM 10", PRICED(1, 10, 256), "M4@0", "ABCD", "0", "M4@0", "", { .cost = 256 * 10, .entries = 1, .looks = 1 } } },
+    { { "sheet I before a held match", AT(10, 256), "M6@12 M6@6 M6@0 H6@20", "MNOPQRGHIJKLABCDEFUVWXYZ", "1110", "N18 H6@20", "MNOPQRGHIJKLABCDEF",
+        { .cost = 256 * 38, .entries = 2, .stored = 18 } },
+      { "sheet I before a held match", AT(10, 256), "M6@12 M6@6 M6@0 H6@20", "MNOPQRGHIJKLABCDEFUVWXYZ", "0000", "M6@12 M6@6 M6@0 H6@20", "",
+        { .cost = 256 * 40, .entries = 4, .looks = 4 } } },
+    { { "a lone match between held ones at EN 1, EM 10", PRICED(1, 10, 256), "H20@20 M4@8 H20@0", VERSION_LONE, "010", "H20@20 N4 H20@0", "IJKL",
+        { .cost = 256 * 25, .entries = 3, .stored = 4 } },
+      { "a lone match between held ones at EN 1, EM 10", PRICED(1, 10, 256), "H20@20 M4@8 H20@0", VERSION_LONE, "000", "H20@20 M4@8 H20@0", "",
+        { .cost = 256 * 30, .entries = 3, .looks = 3 } } },
 };
+
+/* Partition; then the list that it wrote, which comes back with its marks, and with 0 for each match and 1 for each new record. */
+static void give_twice(struct accepted a, const char *store)
+{
+    char what[80], bits[AREA] = "";
+    uint8_t written[AREA];
+    expect("partition", a.what, gives(partition, &a, store));
+    for (size_t i = list_of(a.written, written) / RECORD_BYTES; i > 0; i--)
+        bits[i - 1] = written[RECORD_BYTES * (i - 1)] == KIND_NEW ? '1' : '0';
+    snprintf(what, sizeof what, "%s, handed in again", a.what);
+    a.list = a.written;
+    a.bits = bits;
+    expect("partition", what, gives(partition, &a, store));
+}
 
 /* Pass and partition, of which partition gives no looks. */
 static void give_both(struct accepted a, const char *store)
 {
     expect("pass", a.what, gives(pass, &a, store));
     a.want.looks = 0;
-    expect("partition", a.what, gives(partition, &a, store));
+    give_twice(a, store);
 }
 
 static void test_accepted(void)
@@ -598,8 +710,10 @@ static void test_accepted(void)
         give_both(two_prices[i], STORE);
     for (size_t i = 0; i < sizeof runs / sizeof *runs; i++)
         give_both(runs[i], STORE);
+    for (size_t i = 0; i < sizeof held / sizeof *held; i++)
+        give_both(held[i], STORE);
     for (size_t i = 0; i < sizeof apart / sizeof *apart; i++) {
-        expect("partition", apart[i].least.what, gives(partition, &apart[i].least, STORE));
+        give_twice(apart[i].least, STORE);
         expect("pass", apart[i].passed.what, gives(pass, &apart[i].passed, STORE));
     }
 }
@@ -623,6 +737,11 @@ static const struct {
     { "a block area one byte short", IN(AREA, AREA, 28), SHEET_C, VERSION_C, STORE, 9, 0 },
     { "kind 2", AT(10, 256), "X5 M19@0 N5", VERSION_C, STORE, 4, 0 },
     { "byte 2", AT(10, 256), "N5 M19@0!2 N5", VERSION_C, STORE, 4, 1 },
+    { "a mark on a new record", AT(10, 256), "N5 M19@0 N5!1=1", VERSION_C, STORE, 4, 2 },
+    { "byte 1 of a match at 2", AT(10, 256), "N5 M19@0!1=2 N5", VERSION_C, STORE, 4, 1 },
+    { "byte 1 of a match at 255", AT(10, 256), "N5 M19@0!1=255 N5", VERSION_C, STORE, 4, 1 },
+    { "byte 2 of a held match", AT(10, 256), "N5 H19@0!2 N5", VERSION_C, STORE, 4, 1 },
+    { "byte 3 of a held match", AT(10, 256), "N5 H19@0!3 N5", VERSION_C, STORE, 4, 1 },
     { "size 0", AT(10, 256), "N5 M19@0 M0@0", VERSION_C, STORE, 4, 2 },
     { "a new record with an address", AT(10, 256), "N5 M19@0 N5@1", VERSION_C, STORE, 4, 2 },
     { "new after new", AT(10, 256), "N5 N19 N5", VERSION_C, STORE, 5, 1 },
@@ -635,16 +754,20 @@ static const struct {
     { "a match of 19 in a store of 18", AT(10, 256), SHEET_C, VERSION_C, "ABCDEFGHIJKLMNOPQR", 7, 1 },
     { "a match of 5 at 15 in a store of 19", AT(10, 256), "M5@15", "PQRST", "ABCDEFGHIJKLMNOPQRS", 7, 0 },
     { "no store", AT(10, 256), SHEET_C, VERSION_C, "", 7, 1 },
+    { "a held match of 19 in a store of 18", AT(10, 256), "N5 H19@0 N5", VERSION_C, "ABCDEFGHIJKLMNOPQR", 7, 1 },
     { "address 4294967295", AT(10, 256), "N5 M19@4294967295 N5", VERSION_C, STORE, 7, 1 },
     { "a match to 2^32, and one at 0", AT(10, 256), "N5 M1@4294967295 M18@0 N5", VERSION_C, STORE, 7, 1 },
     { "a run that passes the store", AT(10, 256), "M20@0 M20@20 M1@40", STORE "A", STORE, 7, 2 },
     { "a match whose first byte differs", AT(10, 256), SHEET_C, VERSION_C, "-BCDEFGHIJKLMNOPQRS", 8, 1 },
     { "a match whose last byte differs", AT(10, 256), SHEET_C, VERSION_C, "ABCDEFGHIJKLMNOPQR-", 8, 1 },
+    { "a held match whose last byte differs", AT(10, 256), "N5 H19@0 N5", VERSION_C, "ABCDEFGHIJKLMNOPQR-", 8, 1 },
     { "a second match that differs", AT(10, 256), "N5 M9@0 M10@10 N5", VERSION_C, STORE, 8, 2 },
     { "1 before 9", { 0, 10, 256, 2, AREA, AREA }, SHEET_C, VERSION_C, STORE, 1, 0 },
     { "9 before 4", IN(2, AREA, AREA), "X5 M19@0 N5", VERSION_C, STORE, 9, 0 },
+    { "9 before 4 for a mark", IN(2, AREA, AREA), "N5!1=1 M19@0 N5", VERSION_C, STORE, 9, 0 },
     { "9 before the short end", IN(2, AREA, AREA), "N5 M1@0 N1", VERSION_C, STORE, 9, 0 },
     { "4 before 5", AT(10, 256), "N5 N0 N5", VERSION_C, STORE, 4, 1 },
+    { "4 for a mark before 5", AT(10, 256), "N5 N19!1=1 N5", VERSION_C, STORE, 4, 1 },
     { "5 before 6", AT(10, 256), "N5 N99 N5", VERSION_C, STORE, 5, 1 },
     { "6 before 7", AT(10, 256), "N5 M99@0 N5", VERSION_C, STORE, 6, 1 },
     { "7 at 1 before 4 at 2", AT(10, 256), "N5 M19@22 N0", VERSION_C, STORE, 7, 1 },
@@ -803,6 +926,48 @@ static void test_greatest_lists(void)
     expect("pass", "4,096 records that go on", answered(pass(E_MOST, E_MOST, F_MOST, most, length, bytes, VERSION_MOST, bytes, VERSION_MOST, bits,
         RECORDS_MOST, out, length, stored, VERSION_MOST, answer, sizeof answer), (struct values){ .cost = 16711425, .entries = 1, .looks = 1 })
         && memcmp(out, one, RECORD_BYTES) == 0 && memcmp(bits, zeros, RECORDS_MOST) == 0);
+    /* The same, all held, become one held match; with every other one held none joins another. */
+    for (size_t i = 0; i < RECORDS_MOST; i++)
+        most[RECORD_BYTES * i + 1] = 1;
+    one[1] = 1;
+    memset(bits, 1, RECORDS_MOST);
+    fill_areas();
+    expect("partition", "4,096 held records that go on", answered(partition(E_MOST, E_MOST, F_MOST, most, length, bytes, VERSION_MOST, bytes,
+        VERSION_MOST, bits, RECORDS_MOST, out, length, stored, VERSION_MOST, answer, sizeof answer), (struct values){ .cost = 16711425, .entries = 1 })
+        && memcmp(out, one, RECORD_BYTES) == 0 && memcmp(bits, zeros, RECORDS_MOST) == 0);
+    memset(bits, 1, RECORDS_MOST);
+    fill_areas();
+    expect("pass", "4,096 held records that go on", answered(pass(E_MOST, E_MOST, F_MOST, most, length, bytes, VERSION_MOST, bytes, VERSION_MOST, bits,
+        RECORDS_MOST, out, length, stored, VERSION_MOST, answer, sizeof answer), (struct values){ .cost = 16711425, .entries = 1, .looks = 1 })
+        && memcmp(out, one, RECORD_BYTES) == 0 && memcmp(bits, zeros, RECORDS_MOST) == 0);
+    for (size_t i = 0; i < RECORDS_MOST; i++)
+        most[RECORD_BYTES * i + 1] = i % 2;
+    fill_areas();
+    expect("partition", "4,096 records that go on, every other one held", answered(partition(1, 1, 1, most, length, bytes, VERSION_MOST, bytes,
+        VERSION_MOST, bits, RECORDS_MOST, out, length, stored, VERSION_MOST, answer, sizeof answer), (struct values){ .cost = 4096, .entries = 4096 })
+        && memcmp(out, most, length) == 0);
+    memset(out, 0, length);
+    fill_areas();
+    expect("pass", "4,096 records that go on, every other one held", answered(pass(1, 1, 1, most, length, bytes, VERSION_MOST, bytes, VERSION_MOST,
+        bits, RECORDS_MOST, out, length, stored, VERSION_MOST, answer, sizeof answer), (struct values){ .cost = 4096, .entries = 4096, .looks = 4096 })
+        && memcmp(out, most, length) == 0);
+    /* 4,096 held matches that do not go on: the greatest price, at which all would be stored, keeps them, and costs 4,096 * 16,711,425. */
+    for (size_t i = 0; i < RECORDS_MOST; i++) {
+        put_record(most, i, KIND_MATCH, VERSION_MOST / RECORDS_MOST, (uint32_t)(3 * i));
+        most[RECORD_BYTES * i + 1] = 1;
+    }
+    memset(bits, 1, RECORDS_MOST);
+    fill_areas();
+    expect("partition", "4,096 held records at the greatest price", answered(partition(E_MOST, E_MOST, F_MOST, most, length, bytes, VERSION_MOST, bytes,
+        VERSION_MOST, bits, RECORDS_MOST, out, length, stored, VERSION_MOST, answer, sizeof answer),
+        (struct values){ .cost = UINT64_C(68449996800), .entries = 4096 }) && memcmp(out, most, length) == 0
+        && memcmp(bits, zeros, RECORDS_MOST) == 0);
+    memset(bits, 1, RECORDS_MOST);
+    fill_areas();
+    expect("pass", "4,096 held records at the greatest price", answered(pass(E_MOST, E_MOST, F_MOST, most, length, bytes, VERSION_MOST, bytes,
+        VERSION_MOST, bits, RECORDS_MOST, out, length, stored, VERSION_MOST, answer, sizeof answer),
+        (struct values){ .cost = UINT64_C(68449996800), .entries = 4096, .looks = 4096 }) && memcmp(out, most, length) == 0
+        && memcmp(bits, zeros, RECORDS_MOST) == 0);
     /* Two matches of 2^32 256ths together, which a sum in 32 bits would take for 0: no price is worth them. */
     for (size_t i = 0; i < 2; i++)
         put_record(most, i, KIND_MATCH, VERSION_MOST / 2, (uint32_t)(VERSION_MOST / 2 * (1 - i)));

@@ -1,5 +1,5 @@
 /* reference.c - the calls of document 01, with costs in 256ths of a disk byte and a price for new entries and one for matches (document 02,
- * S-1 and S-2), compare (S-3), and runs of matches that go on in the store (S-4), a second time, in plain C.
+ * S-1 and S-2), compare (S-3), runs of matches that go on in the store (S-4), and matches that must be held (S-6), a second time, in plain C.
  *
  * In order: limits; reading and writing of fields; the checks of the inputs; the cost; measure, rebuild and check; compare; runs; the
  * least choice; the pass; what partition and pass write. It shares no line with the library and takes nothing from its header. Where the library
@@ -16,8 +16,9 @@ enum { LONGEST_LIST = RECORD * MOST_RECORDS, LONGEST_VERSION = 16777216, LONGEST
 
 /* ---- Fields ---- */
 
-/* The kinds of a record; a mark of the pass is of neither kind. */
-enum { NEW = 0, MATCH = 1, MARK = 2 };
+/* The kinds of a record; in the least choice and the pass also a match that must be held, and the front and the rear of the pass: for the rules these
+ * are of neither kind. */
+enum { NEW = 0, MATCH = 1, HELD = 2, END = 3 };
 
 static uint32_t get32(const uint8_t *b)
 {
@@ -30,6 +31,12 @@ static void put32(uint8_t *b, uint32_t v)
     b[1] = (uint8_t)(v >> 8);
     b[2] = (uint8_t)(v >> 16);
     b[3] = (uint8_t)(v >> 24);
+}
+
+/* Byte 1 of a sound record: 1 in a match that must be held. */
+static uint8_t mark_of(const uint8_t *list, size_t i)
+{
+    return list[RECORD * i + 1];
 }
 
 static uint32_t size_of(const uint8_t *list, size_t i)
@@ -103,14 +110,14 @@ static uint32_t bad_length(const struct inputs *in)
     return 0;
 }
 
-/* Number 4. */
+/* Number 4; only a match may have the mark. */
 static int malformed(const uint8_t *r)
 {
     if (r[0] != NEW && r[0] != MATCH)
         return 1;
-    if ((r[1] | r[2] | r[3]) != 0 || get32(r + 4) == 0)
+    if (r[1] > 1 || (r[2] | r[3]) != 0 || get32(r + 4) == 0)
         return 1;
-    return r[0] == NEW && get32(r + 8) != 0;
+    return r[0] == NEW && (r[1] != 0 || get32(r + 8) != 0);
 }
 
 /* Numbers 4 to 8 for record i, or 0; whole is its offset, which is at most limit. */
@@ -330,16 +337,16 @@ uint32_t ref_compare(const uint8_t *first, size_t first_len,
 
 /* ---- Runs: matches that go on in the store ---- */
 
-/* Whether record i is a match that begins where the one before it, a match too, ended. */
+/* Whether record i is a match that begins where the one before it, a match too and with the same mark, ended. */
 static int goes_on(const uint8_t *list, size_t i)
 {
-    if (i == 0 || list[RECORD * i] != MATCH || list[RECORD * (i - 1)] != MATCH)
+    if (i == 0 || list[RECORD * i] != MATCH || list[RECORD * (i - 1)] != MATCH || mark_of(list, i) != mark_of(list, i - 1))
         return 0;
     return (uint64_t)address_of(list, i - 1) + size_of(list, i - 1) == address_of(list, i);
 }
 
-/* The runs of a list: run r is the records first[r] to first[r + 1] - 1, one new record, or a match and those that go on from it; with its kind and
- * its bytes. */
+/* The runs of a list: run r is the records first[r] to first[r + 1] - 1, one new record, or a match and those that go on from it, all of them held or
+ * none; with its kind and its bytes. */
 static size_t first[MOST_RECORDS + 1];
 static uint8_t run_kind[MOST_RECORDS];
 static uint32_t run_bytes[MOST_RECORDS];
@@ -351,7 +358,7 @@ static size_t find_runs(const uint8_t *list, size_t n)
     for (size_t i = 0; i < n; i++) {
         if (!goes_on(list, i)) {
             first[runs] = i;
-            run_kind[runs] = list[RECORD * i];
+            run_kind[runs] = mark_of(list, i) != 0 ? HELD : list[RECORD * i];
             run_bytes[runs] = 0;
             runs++;
         }
@@ -371,7 +378,7 @@ static void choose_runs(uint8_t *choice, size_t run, size_t count, int stored)
 
 /* No least choice keeps one part of a run and stores another: of two such neighbours, to keep the stored one too spares its bytes, and either leaves
  * as many entries or spares one. So the runs are chosen for, as if each were one record; and two choices of runs differ first where the
- * choices of their records do. */
+ * choices of their records do. A new one is stored, a held one is kept, and only the others are chosen for. */
 
 /* The least cost of the runs from r on, where the one before r is kept (or is none), and where it is new. */
 static uint64_t after_kept[MOST_RECORDS + 1], after_new[MOST_RECORDS + 1];
@@ -379,6 +386,12 @@ static uint64_t after_kept[MOST_RECORDS + 1], after_new[MOST_RECORDS + 1];
 static uint64_t lesser(uint64_t a, uint64_t b)
 {
     return a < b ? a : b;
+}
+
+/* Of storing a run and keeping it: the cost of the one that its kind allows, else the lesser. */
+static uint64_t allowed_cost(uint8_t kind_of_run, uint64_t stored, uint64_t kept)
+{
+    return kind_of_run == NEW ? stored : kind_of_run == HELD ? kept : lesser(kept, stored);
 }
 
 /* Fills both rows from the rear. */
@@ -390,13 +403,12 @@ static void fill_costs(size_t runs, const struct price *price)
     for (size_t r = runs; r-- > 0;) {
         const uint64_t joined = bytes_cost(run_bytes[r]) + after_new[r + 1];
         const uint64_t kept = match + after_kept[r + 1];
-        const int is_new = run_kind[r] == NEW;
-        after_new[r] = is_new ? joined : lesser(kept, joined);
-        after_kept[r] = is_new ? new_entry + joined : lesser(kept, new_entry + joined);
+        after_new[r] = allowed_cost(run_kind[r], joined, kept);
+        after_kept[r] = allowed_cost(run_kind[r], new_entry + joined, kept);
     }
 }
 
-/* Chooses forwards; a run of matches is stored only where that costs less. */
+/* Chooses forwards; a run of matches is stored only where that costs less and none is held. */
 static void choose_least(const uint8_t *list, size_t n, const struct price *price, uint8_t *choice)
 {
     const uint64_t new_entry = entry_cost(price, NEW), match = entry_cost(price, MATCH);
@@ -406,7 +418,7 @@ static void choose_least(const uint8_t *list, size_t n, const struct price *pric
     for (size_t r = 0; r < runs; r++) {
         const uint64_t joined = entry + bytes_cost(run_bytes[r]) + after_new[r + 1];
         const uint64_t kept = match + after_kept[r + 1];
-        const int stored = run_kind[r] == NEW || joined < kept;
+        const int stored = run_kind[r] == NEW || (run_kind[r] == MATCH && joined < kept);
         choose_runs(choice, r, 1, stored);
         entry = stored ? 0 : new_entry;
     }
@@ -414,7 +426,7 @@ static void choose_least(const uint8_t *list, size_t n, const struct price *pric
 
 /* ---- The pass ---- */
 
-/* The list of the pass, doubly linked: 0 is the front mark, 1 to n the runs, n + 1 the rear mark. */
+/* The list of the pass, doubly linked: 0 is the front, 1 to n the runs, n + 1 the rear. */
 static uint8_t kind[MOST_RECORDS + 2];
 static uint32_t size[MOST_RECORDS + 2];
 static uint16_t before[MOST_RECORDS + 2], after[MOST_RECORDS + 2];
@@ -422,9 +434,9 @@ static uint16_t before[MOST_RECORDS + 2], after[MOST_RECORDS + 2];
 static void link_runs(size_t runs)
 {
     for (size_t i = 0; i <= runs + 1; i++) {
-        const int mark = i == 0 || i == runs + 1;
-        kind[i] = mark ? MARK : run_kind[i - 1];
-        size[i] = mark ? 0 : run_bytes[i - 1];
+        const int end = i == 0 || i == runs + 1;
+        kind[i] = end ? END : run_kind[i - 1];
+        size[i] = end ? 0 : run_bytes[i - 1];
         before[i] = (uint16_t)(i == 0 ? 0 : i - 1);
         after[i] = (uint16_t)(i + 1);
     }
@@ -525,9 +537,11 @@ static struct answer write_choice(const struct job *job)
     struct answer a = {0};
     for (size_t i = 0; i < n; out += RECORD, a.entries++) {
         const int stored = job->choice[i];
+        const uint8_t mark = stored ? 0 : mark_of(job->in.list, i);
         const uint32_t address = stored ? 0 : address_of(job->in.list, i), covered = joined_size(job, n, &i);
         memset(out, 0, RECORD);
         out[0] = stored ? NEW : MATCH;
+        out[1] = mark;
         put32(out + 4, covered);
         put32(out + 8, address);
         if (stored) {

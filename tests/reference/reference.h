@@ -1,5 +1,5 @@
 /* reference.h - the calls of document 01, with costs in 256ths of a disk byte and a price for new entries and one for matches (document 02,
- * S-1 and S-2), compare (S-3), and runs of matches that go on in the store (S-4), a second time, in plain C.
+ * S-1 and S-2), compare (S-3), runs of matches that go on in the store (S-4), and matches that must be held (S-6), a second time, in plain C.
  *
  * Scope: what the differential test compares the library with, and what the benchmark takes for its baseline. The calls have
  * the signatures of controller.h, with the prefix ref_; areas, answer area, numbers and their order are those of document 01.
