@@ -1,12 +1,13 @@
 /* short_lists.c - partition and pass on every short list, against every choice of it and a second writing of the five rules.
  *
- * Written from document 01, and document 02's S-1, S-2 and S-4, alone: nothing here is of the crates or of tests/reference. The lists have 0 to
- * 6 records, new or match, of the sizes 1, 3, 4, 7 and 8, but none of 7 among six; each match after a match once goes on in the store
- * where that one ended, and once begins a byte later. All of them are tried at each of eight prices: every entry at 4 disk bytes, at a
- * little less and a little more, and at 3 and a half; new entries cheaper than matches, twice; and dearer, twice. Partition must give the
- * choice that comes first among all; pass must give what the rules leave, and keep its bounds: no dearer than the list handed in, nor than that with
- * its runs joined, no cheaper than the least choice, at most 2n - 1 looks for the n records after joining, and no match stored alone. Answers are
- * compared field by field and areas to their last byte.
+ * Written from document 01, and document 02's S-1, S-2, S-4 and S-6, alone: nothing here is of the crates or of tests/reference. The lists have 0
+ * to 6 records, new or match, of the sizes 1, 3, 4, 7 and 8, but none of 7 among six; each match after a match once goes on in the store
+ * where that one ended, and once begins a byte later. Among up to four records, and among five of the sizes 1, 4 and 8, each match is once held and
+ * once not. All of them are tried at each of eight prices: every entry at 4 disk bytes, at a little less and a little more, and at 3 and a half;
+ * new entries cheaper than matches, twice; and dearer, twice. Partition must give the choice that comes first among all that keep the held
+ * matches, which costs no less than the first without the marks; pass must give what the rules leave, for which a held match is of neither kind,
+ * and keep its bounds: no dearer than the list handed in, nor than that with its runs joined, no cheaper than the least choice, at most 2n - 1
+ * looks for the n records after joining, and no match stored alone. Answers are compared field by field and areas to their last byte.
  *
  * In order: the price; lists; a choice; the least choice; the pass; what is due; one call; one list; all lists; all prices.
  * Exit 0 and a line with the counts for each price, each held to its number, else 1 and a line for each of the first lists that are wrong.
@@ -49,8 +50,9 @@ enum { MOST = 6, LONGEST = 48 };
 /* The marks of the pass are of neither kind. */
 enum { NEW = 0, MATCH = 1, MARK = 2 };
 
+/* Held is 1 in a match that must be kept, else 0. */
 struct record {
-    uint32_t kind, size, address;
+    uint32_t kind, size, address, held;
 };
 
 struct list {
@@ -81,7 +83,8 @@ static int same_list(const struct list *a, const struct list *b)
     if (a->n != b->n)
         return 0;
     for (size_t i = 0; i < a->n; i++)
-        if (a->at[i].kind != b->at[i].kind || a->at[i].size != b->at[i].size || a->at[i].address != b->at[i].address)
+        if (a->at[i].kind != b->at[i].kind || a->at[i].size != b->at[i].size || a->at[i].address != b->at[i].address ||
+            a->at[i].held != b->at[i].held)
             return 0;
     return 1;
 }
@@ -92,6 +95,7 @@ static void write_list(const struct list *list, uint8_t *bytes)
     for (size_t i = 0; i < list->n; i++, bytes += RECORD_BYTES) {
         memset(bytes, 0, RECORD_BYTES);
         bytes[0] = (uint8_t)list->at[i].kind;
+        bytes[1] = (uint8_t)list->at[i].held;
         for (int b = 0; b < 4; b++) {
             bytes[4 + b] = (uint8_t)(list->at[i].size >> (8 * b));
             bytes[8 + b] = (uint8_t)(list->at[i].address >> (8 * b));
@@ -113,23 +117,24 @@ static void write_block(const struct list *list, const uint8_t *version, uint8_t
 
 /* ---- A choice ---- */
 
-/* What a record leaves to choose: a new one always has 1. */
+/* What a record leaves to choose: a new one always has 1, a held one 0. */
 static int may_have(const struct record *r, uint8_t bit)
 {
-    return r->kind == MATCH || bit == 1;
+    return r->kind == NEW ? bit == 1 : !r->held || bit == 0;
 }
 
 /* A record under its bit: 0 keeps it as it was, 1 makes it new. */
 static struct record under(const struct record *r, uint8_t bit)
 {
-    const struct record made_new = { NEW, r->size, 0 };
+    const struct record made_new = { NEW, r->size, 0, 0 };
     return bit == 0 ? *r : made_new;
 }
 
-/* Which neighbours become one record: two new ones, and two matches where the second begins in the store where the first ends. */
+/* Which neighbours become one record: two new ones, and two matches, both held or neither, where the second begins in the store where the first
+ * ends. */
 static int join(const struct record *a, const struct record *b)
 {
-    return a->kind == b->kind && (a->kind == NEW || a->address + a->size == b->address);
+    return a->kind == b->kind && (a->kind == NEW || (a->held == b->held && a->address + a->size == b->address));
 }
 
 /* The list with one record more, or with its last one longer. */
@@ -230,7 +235,7 @@ struct row {
 /* p starts at the first record, or at the rear if there is none. */
 static struct row row_of(const struct list *list)
 {
-    const struct record mark = { MARK, 0, 0 };
+    const struct record mark = { MARK, 0, 0, 0 };
     struct row row = { 1, list->n + 1, { mark } };
     for (size_t i = 0; i < list->n; i++)
         row.at[1 + i] = list->at[i];
@@ -251,9 +256,10 @@ static int is_new(const struct record *r)
     return r->kind == NEW;
 }
 
+/* For the rules a held match is of neither kind. */
 static int is_match(const struct record *r)
 {
-    return r->kind == MATCH;
+    return r->kind == MATCH && !r->held;
 }
 
 /* The four merges ask for a match at p, which is no mark; so the one before p and the one after are there. */
@@ -282,7 +288,7 @@ static int fourth_applies(const struct record *p)
 /* Makes one new record of so many from a place on; those after it move up to it. */
 static void merge(struct row *row, size_t from, size_t count)
 {
-    struct record made = { NEW, 0, 0 };
+    struct record made = { NEW, 0, 0, 0 };
     for (size_t i = from; i < from + count; i++)
         made.size += row->at[i].size;
     row->at[from] = made;
@@ -460,7 +466,7 @@ static const char *differs(call_of *call, const struct input *in, const struct d
 /* ---- One list ---- */
 
 static struct counts {
-    uint64_t lists, choices, ties, dearer, looks, alone, wrong;
+    uint64_t lists, held, choices, ties, dearer, looks, alone, cheaper, stored, wrong;
 } count;
 
 enum { REPORTED = 10 };
@@ -471,7 +477,7 @@ static void report(const struct list *list, const char *call, const char *what)
         return;
     printf("short_lists: EN %" PRIu32 ", EM %" PRIu32 ", F %" PRIu32 ":", price.en, price.em, price.f);
     for (size_t i = 0; i < list->n; i++) {
-        printf(" %c%" PRIu32, list->at[i].kind == NEW ? 'N' : 'M', list->at[i].size);
+        printf(" %c%" PRIu32, list->at[i].kind == NEW ? 'N' : list->at[i].held ? 'H' : 'M', list->at[i].size);
         if (list->at[i].kind == MATCH)
             printf("@%" PRIu32, list->at[i].address);
     }
@@ -491,6 +497,36 @@ static void try_call(const char *name, call_of *call, const struct input *in, co
         report(&in->list, name, wrong);
 }
 
+static int has_held(const struct list *list)
+{
+    for (size_t i = 0; i < list->n; i++)
+        if (list->at[i].held)
+            return 1;
+    return 0;
+}
+
+/* How many held matches a choice stores. */
+static uint64_t held_stored(const struct list *list, const uint8_t *bits)
+{
+    uint64_t stored = 0;
+    for (size_t i = 0; i < list->n; i++)
+        stored += list->at[i].held && bits[i] == 1;
+    return stored;
+}
+
+/* The least choice of a list without its marks, which costs no more, and may store what is held. */
+static void try_unmarked(const struct list *list, uint64_t least_cost)
+{
+    struct list unmarked = *list;
+    for (size_t i = 0; i < list->n; i++)
+        unmarked.at[i].held = 0;
+    const struct rivals all = rivals_of(&unmarked);
+    expect(all.least.cost <= least_cost, list, "the least choice", "costs less than without the marks");
+    count.held++;
+    count.cheaper += all.least.cost < least_cost;
+    count.stored += held_stored(list, all.least.bits) > 0;
+}
+
 static void try_list(const struct input *in)
 {
     const struct list *list = &in->list;
@@ -505,6 +541,8 @@ static void try_list(const struct input *in)
     expect(cost(&runs) <= cost(list), list, "runs joined", "cost more than the list handed in");
     expect(passed.looks <= most_looks(&runs), list, "the rules", "take more than 2n - 1 looks");
     expect(stored_alone(list, passed.made.bits) == 0, list, "the rules", "store a match alone");
+    if (has_held(list))
+        try_unmarked(list, least.made.cost);
     count.lists++;
     count.choices += all.choices;
     count.ties += all.cheapest > 1;
@@ -517,11 +555,13 @@ static void try_list(const struct input *in)
 
 /* The records of which lists are made; a match begins so many bytes after the end of the last one before it. */
 static const struct shape {
-    uint32_t kind, size, gap;
+    uint32_t kind, size, gap, held;
 } shapes[] = {
-    { NEW, 1, 0 }, { NEW, 3, 0 }, { NEW, 4, 0 }, { NEW, 7, 0 }, { NEW, 8, 0 },
-    { MATCH, 1, 0 }, { MATCH, 3, 0 }, { MATCH, 4, 0 }, { MATCH, 7, 0 }, { MATCH, 8, 0 },
-    { MATCH, 1, 1 }, { MATCH, 3, 1 }, { MATCH, 4, 1 }, { MATCH, 7, 1 }, { MATCH, 8, 1 },
+    { NEW, 1, 0, 0 }, { NEW, 3, 0, 0 }, { NEW, 4, 0, 0 }, { NEW, 7, 0, 0 }, { NEW, 8, 0, 0 },
+    { MATCH, 1, 0, 0 }, { MATCH, 3, 0, 0 }, { MATCH, 4, 0, 0 }, { MATCH, 7, 0, 0 }, { MATCH, 8, 0, 0 },
+    { MATCH, 1, 1, 0 }, { MATCH, 3, 1, 0 }, { MATCH, 4, 1, 0 }, { MATCH, 7, 1, 0 }, { MATCH, 8, 1, 0 },
+    { MATCH, 1, 0, 1 }, { MATCH, 3, 0, 1 }, { MATCH, 4, 0, 1 }, { MATCH, 7, 0, 1 }, { MATCH, 8, 0, 1 },
+    { MATCH, 1, 1, 1 }, { MATCH, 3, 1, 1 }, { MATCH, 4, 1, 1 }, { MATCH, 7, 1, 1 }, { MATCH, 8, 1, 1 },
 };
 
 /* Where the last match of a list ends in the store; the first begins at 0. */
@@ -533,20 +573,31 @@ static uint32_t end_of_last(const struct list *list)
     return 0;
 }
 
-/* A sixth record, and five to go before it: none has 7 bytes, which two records of a run have together. */
+/* A fifth record, and four to go before it: where one is held, none has 3 bytes or 7. */
+static int may_be_fifth(const struct list *list, const struct shape *shape)
+{
+    if (!shape->held && !has_held(list))
+        return 1;
+    for (size_t i = 0; i < list->n; i++)
+        if (list->at[i].size == 3 || list->at[i].size == 7)
+            return 0;
+    return shape->size != 3 && shape->size != 7;
+}
+
+/* A sixth record, and five to go before it: none is held, and none has 7 bytes, which two records of a run have together. */
 static int may_be_sixth(const struct list *list, const struct shape *shape)
 {
     for (size_t i = 0; i < list->n; i++)
         if (list->at[i].size == 7)
             return 0;
-    return shape->size != 7;
+    return shape->size != 7 && !shape->held && !has_held(list);
 }
 
 /* No new record right after a new one; a gap right after a match alone, as a new record keeps matches apart without one. */
 static int may_follow(const struct list *list, const struct shape *shape)
 {
     const uint32_t last = list->n == 0 ? MARK : list->at[list->n - 1].kind;
-    if (list->n == MOST - 1 && !may_be_sixth(list, shape))
+    if ((list->n == 4 && !may_be_fifth(list, shape)) || (list->n == 5 && !may_be_sixth(list, shape)))
         return 0;
     return shape->kind == NEW ? last != NEW : shape->gap == 0 || last == MATCH;
 }
@@ -556,7 +607,7 @@ static struct input append(const struct input *in, const struct shape *shape)
 {
     struct input next = *in;
     struct record *r = &next.list.at[next.list.n];
-    *r = (struct record){ shape->kind, shape->size, shape->kind == MATCH ? end_of_last(&in->list) + shape->gap : 0 };
+    *r = (struct record){ shape->kind, shape->size, shape->kind == MATCH ? end_of_last(&in->list) + shape->gap : 0, shape->held };
     next.list.n++;
     for (uint32_t i = 0; i < r->size; i++, next.whole++)
         next.version[next.whole] = r->kind == MATCH ? store[r->address + i] : (uint8_t)(100 + next.whole);
@@ -578,27 +629,32 @@ static void try_all_from(const struct input *in)
 /* ---- All prices ---- */
 
 /* Of n kinds, a match after a match being of two, those that end new are as many as those of n - 1 that end with a match, and those that end with
- * a match as many as those of n - 1 that end new and twice those that end with a match: 1, 2, 4, 10, 24, 58, 140 together; and 5 sizes for each
- * record, 4 for each of six: 1 + 2 * 5 + 4 * 25 + 10 * 125 + 24 * 625 + 58 * 3,125 + 140 * 4,096 lists. A choice is free at each match, so of
- * choices there are 1 + 3 * 5 + 12 * 25 + 54 * 125 + 240 * 625 + 1,068 * 3,125 + 4,752 * 4,096. */
-enum { LISTS = 771051, CHOICES = 22958758 };
+ * a match as many as those of n - 1 that end new and twice those that end with a match: 1, 2, 4, 10, 24, 58, 140 together. Where each match may be of
+ * w kinds, w times as many end with a match: for w = 2 there are 1, 3, 12, 54, 240, 1,068, 4,752 together, for w = 3 there are 1, 4, 24, 156, 1,008,
+ * 6,516. A match is held or not, of two kinds then, up to four records of 5 sizes and among five of 3; where none is held, five records have 5
+ * sizes too, and six have 4: 1 + 3 * 5 + 12 * 25 + 54 * 125 + 240 * 625 + (1,068 - 58) * 243 + 58 * 3,125 + 140 * 4,096 lists, of which
+ * (3 - 2) * 5 + (12 - 4) * 25 + (54 - 10) * 125 + (240 - 24) * 625 + (1,068 - 58) * 243 have a held match. A choice is free at each match that is not
+ * held, so with its choices a match is of three kinds, and of two where none is held: of choices there are 1 + 4 * 5 + 24 * 25 + 156 * 125
+ * + 1,008 * 625 + (6,516 - 1,068) * 243 + 1,068 * 3,125 + 4,752 * 4,096. */
+enum { LISTS = 1157186, LISTS_HELD = 386135, CHOICES = 24775677 };
 
 /* A price, and what was counted once at it: lists of which two choices or more cost least, passes dearer than partition, looks, and matches
- * that the least choice stores alone, of which there are none where EN is not less than EM. At EN = EM = 2 and F = 512 a match of 4 or 8 bytes
- * costs just as much as one entry or two, and at 448 one of 7 as much as two; at 511 and 513 no number of entries up to 127 costs as much as
- * any number of bytes, and no tie is left. At 511 the rules apply as at 512, so there are as many looks. */
+ * that the least choice stores alone, of which there are none where EN is not less than EM; then, without their marks, lists that cost less, and
+ * lists of which the least choice stores a match that is held. At EN = EM = 2 and F = 512 a match of 4 or 8 bytes costs just as much as one entry
+ * or two, and at 448 one of 7 as much as two; at 511 and 513 no number of entries up to 127 costs as much as any number of bytes, and no tie is
+ * left. At 511 the rules apply as at 512, so there are as many looks. */
 static const struct round {
     struct price price;
-    uint64_t ties, dearer, looks, alone;
+    uint64_t ties, dearer, looks, alone, cheaper, stored;
 } rounds[] = {
-    { { 2, 2, 512 }, 197498, 55489, 3256408, 0 },
-    { { 2, 2, 511 }, 0, 55489, 3256408, 0 },
-    { { 2, 2, 513 }, 0, 16892, 3316537, 0 },
-    { { 2, 2, 448 }, 30049, 33157, 3269444, 0 },
-    { { 1, 2, 512 }, 185334, 108088, 3308961, 91219 },
-    { { 1, 3, 448 }, 29088, 138444, 3437383, 136506 },
-    { { 5, 4, 256 }, 149894, 62762, 3212153, 0 },
-    { { 3, 1, 512 }, 57431, 20235, 3166226, 0 },
+    { { 2, 2, 512 }, 230864, 57803, 4805429, 0, 269402, 70654 },
+    { { 2, 2, 511 }, 0, 57803, 4805429, 0, 269402, 70654 },
+    { { 2, 2, 513 }, 0, 17534, 4883239, 0, 288452, 98970 },
+    { { 2, 2, 448 }, 30557, 35213, 4818715, 0, 267007, 67223 },
+    { { 1, 2, 512 }, 231939, 193085, 4870923, 192233, 289395, 111091 },
+    { { 1, 3, 448 }, 29718, 243452, 5029384, 246368, 321082, 173008 },
+    { { 5, 4, 256 }, 180651, 65088, 4758763, 0, 271408, 71758 },
+    { { 3, 1, 512 }, 60870, 20343, 4704766, 0, 247526, 36554 },
 };
 
 /* Tries all lists at a price; whether all went well. */
@@ -610,10 +666,13 @@ static int try_round(const struct round *round)
     try_all_from(&none);
     printf("short_lists: EN %" PRIu32 ", EM %" PRIu32 ", F %" PRIu32 ": %" PRIu64 " lists of %d, %" PRIu64 " choices of %d, %" PRIu64
            " lists with a tie of %" PRIu64 ", %" PRIu64 " passes dearer of %" PRIu64 ", %" PRIu64 " looks of %" PRIu64 ", %" PRIu64
-           " matches stored alone of %" PRIu64 ", %" PRIu64 " wrong\n", price.en, price.em, price.f, count.lists, LISTS, count.choices, CHOICES,
-           count.ties, round->ties, count.dearer, round->dearer, count.looks, round->looks, count.alone, round->alone, count.wrong);
+           " matches stored alone of %" PRIu64 "; %" PRIu64 " lists with a held match of %d, %" PRIu64 " cheaper without the mark of %" PRIu64
+           ", %" PRIu64 " with it stored of %" PRIu64 "; %" PRIu64 " wrong\n", price.en, price.em, price.f, count.lists, LISTS, count.choices, CHOICES, count.ties,
+           round->ties, count.dearer, round->dearer, count.looks, round->looks, count.alone, round->alone, count.held, LISTS_HELD, count.cheaper,
+           round->cheaper, count.stored, round->stored, count.wrong);
     return count.lists == LISTS && count.choices == CHOICES && count.ties == round->ties && count.dearer == round->dearer
-        && count.looks == round->looks && count.alone == round->alone && count.wrong == 0;
+        && count.looks == round->looks && count.alone == round->alone && count.held == LISTS_HELD && count.cheaper == round->cheaper
+        && count.stored == round->stored && count.wrong == 0;
 }
 
 int main(void)
