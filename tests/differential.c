@@ -3,10 +3,11 @@
  * For each call: the number returned, the answer area, and every byte of every area lent for writing, with the bytes around it,
  * must be the reference's; what is lent for reading must stay as it was, and on refusal every area but the answer. Without the
  * reference: the written list is the one its choice makes, it measures as the answer says and rebuilds the version, it comes
- * back from a second partition as it is, short lists are held against all their choices, a match that stands alone is stored exactly
- * where that costs less, and the pass is held to its bounds; two lists are said to give the same version exactly where rebuild makes the
- * same bytes of both, in either order, and a list gives the same version as itself and as what partition and pass wrote of it; a match is
- * refused, and a list said to give another version, exactly where one of its bytes differs, whichever it is.
+ * back from a second partition as it is, short lists are tried against all their choices that keep the held matches, a match that stands alone
+ * and is not held is stored exactly where that costs less, the held bytes of the version stay held at their addresses, and the pass keeps its
+ * bounds; two lists are said to give the same version exactly where rebuild makes the same bytes of both, in either order, and a list gives the
+ * same version as itself and as what partition and pass wrote of it; a match is refused, and a list said to give another version, exactly where
+ * one of its bytes differs, whichever it is; measure, rebuild, check and compare do the same for a list without its marks, sound or not.
  *
  * In order: the calls; chance; the areas; fields; reports; one comparison; the laws; one case; valid inputs; second lists; damage; the
  * cases; the table. Not here: NULL for an empty area, which controller.h does not allow.
@@ -14,8 +15,10 @@
  *   differential [seed]
  *
  * The same seed gives the same inputs. Exit 0 where nothing differs, each number of document 01, for each list of compare, and each kind of
- * price below was reached, a match differed in one byte at each pair of places within a word, yes of two different lists and no were each given in
- * two pairs of five or more, and of neighbouring matches two in five or more go on in the store and as many do not; else 1.
+ * price below was reached, 4 also for a mark on a new record and for byte 1 over 1 on a match, a match differed in one byte at each pair of places
+ * within a word, yes of two different lists and no were each given in two pairs of five or more, of neighbouring matches two in five or more go on
+ * in the store and as many do not, about a third of the matches are held, and about a third of those that go on have another mark, marks were
+ * flipped, a short list would have been cheaper with a held match stored, and calls were made without the marks, accepted and refused; else 1.
  */
 #include <inttypes.h>
 #include <signal.h>
@@ -62,9 +65,10 @@ static int one_in(uint32_t n)
 
 /* ---- The areas ---- */
 
-/* What a call is lent: the inputs, with a second list and its stored block, and the lengths of the areas to write. */
+/* What a call is lent: the inputs, with a second list and its stored block, and the lengths of the areas to write; and the chance, in thirds, that a
+ * match is held. */
 struct input {
-    uint32_t en, em, f, k;
+    uint32_t en, em, f, k, held_of_3;
     uint8_t *list, *version, *store, *block, *second, *second_block;
     size_t list_len, version_len, store_len, block_len, second_len, second_block_len;
     size_t choice_len, list_area_len, block_area_len, area_len, answer_len;
@@ -106,7 +110,7 @@ static const unsigned lent[CALLS] = {
 };
 
 /* The areas of the second partition and of the laws. */
-static uint8_t *law_choice, *law_list, *law_block, *law_whole, *law_second_whole;
+static uint8_t *law_choice, *law_list, *law_block, *law_whole, *law_second, *law_second_whole;
 
 static uint8_t *room_for(size_t most)
 {
@@ -128,7 +132,7 @@ static void make_room(void)
     second_bytes = room_for(list_most), second_copy = room_for(list_most);
     second_block_bytes = room_for(VERSION_MOST), second_block_copy = room_for(VERSION_MOST);
     zeros = room_for(STORE_MOST);
-    law_choice = room_for(RECORDS_MOST), law_list = room_for(list_most);
+    law_choice = room_for(RECORDS_MOST), law_list = room_for(list_most), law_second = room_for(list_most);
     law_block = room_for(VERSION_MOST), law_whole = room_for(VERSION_MOST), law_second_whole = room_for(VERSION_MOST);
     for (int a = 0; a < AREAS; a++)
         for (int side = 0; side < SIDES; side++)
@@ -357,9 +361,22 @@ static void same_area(int call, int which, int refused, const struct input *in)
     }
 }
 
-/* The columns of the table: numbers 0 to 11, 6 at the short end, 9 for the answer area. */
-enum { SHORT_END = 12, SHORT_ANSWER = 13, COLUMNS = 14 };
+/* The columns of the table: numbers 0 to 11, 6 at the short end, 9 for the answer area, and 4 for nothing but a mark on a new record, or for nothing
+ * but byte 1 over 1 on a match. */
+enum { SHORT_END = 12, SHORT_ANSWER = 13, MARKED_NEW = 14, OVER_ONE = 15, COLUMNS = 16 };
+static const struct { const char *name, *where; int number; } special[COLUMNS - SHORT_END] = {
+    { "6 end", " at the short end", 6 }, { "9 ans", " for the answer area", 9 }, { "4 mark", " for a mark on a new record", 4 },
+    { "4 over", " for byte 1 over 1 on a match", 4 },
+};
 static uint64_t compared[ROWS], reached[ROWS][COLUMNS];
+
+/* The column of a record with number 4. */
+static uint32_t malformed_column(const uint8_t *r)
+{
+    if (r[0] > 1 || r[2] != 0 || r[3] != 0 || get32(r + 4) == 0 || (r[0] == 0 && get32(r + 8) != 0))
+        return MALFORMED_RECORD;
+    return r[0] == 0 && r[1] == 1 ? MARKED_NEW : r[0] == 1 && r[1] > 1 ? OVER_ONE : MALFORMED_RECORD;
+}
 
 /* Whether rebuild, which makes compare's checks of the first list, found no fault in it. */
 static int first_is_sound(void)
@@ -375,6 +392,8 @@ static void tally(int call, const struct input *in)
     uint32_t column = g->number;
     if (g->number == BAD_SIZES && g->place == records(in) && (call == PARTITION || call == PASS))
         column = SHORT_END;
+    if (g->number == MALFORMED_RECORD)
+        column = malformed_column(record(second ? in->second : in->list, g->place));
     if (in->answer_len < ANSWER_BYTES)
         column = SHORT_ANSWER;
     compared[row]++;
@@ -406,10 +425,11 @@ static int try_call(int call, const struct input *in)
 
 /* ---- The laws: what an accepted partition or pass must have written, without the reference ---- */
 
-static uint64_t dearer_passes, ties, lone_stored, lone_kept;
+static uint64_t dearer_passes, ties, bound, lone_stored, lone_kept;
 
-/* Of the neighbouring matches that partition was handed and accepted: those where the second goes on in the store, and the others. */
-static uint64_t going_on, not_going_on;
+/* Of the matches that partition was handed and accepted: all, and the held ones. Of the neighbouring ones: those where the second goes on in the
+ * store, those of them with different marks, and the others. */
+static uint64_t matches, held_matches, going_on, going_on_parted, not_going_on;
 
 /* The factors at which a partition must have been accepted: the edges, and around one disk byte. */
 static struct { uint32_t f; uint64_t accepted; } factors[] = { { 1, 0 }, { 255, 0 }, { 256, 0 }, { 257, 0 }, { 65535, 0 } };
@@ -438,21 +458,39 @@ static uint64_t match_cost(const struct input *in)
     return (uint64_t)in->f * in->em;
 }
 
-/* Whether record i is a match that goes on in the store where the record before it, a match too, ended. */
-static int goes_on(const struct input *in, size_t i)
+/* Whether record i of a sound list is a match that must be held. */
+static int is_held(const struct input *in, size_t i)
+{
+    return record(in->list, i)[1] == 1;
+}
+
+/* Whether record i is a match that begins in the store where the record before it, a match too, ended. */
+static int follows(const struct input *in, size_t i)
 {
     const uint8_t *r = record(in->list, i);
     return i > 0 && r[0] == 1 && r[-RECORD_BYTES] == 1 && (uint64_t)get32(r - RECORD_BYTES + 8) + get32(r - RECORD_BYTES + 4) == get32(r + 8);
 }
 
-static void tally_runs(const struct input *in)
+/* Whether record i goes on from the one before it: it begins where that ended, and both are held or neither. */
+static int goes_on(const struct input *in, size_t i)
 {
-    for (size_t i = 1; i < records(in); i++)
-        if (record(in->list, i)[0] == 1 && record(in->list, i - 1)[0] == 1)
-            *(goes_on(in, i) ? &going_on : &not_going_on) += 1;
+    return follows(in, i) && is_held(in, i) == is_held(in, i - 1);
 }
 
-/* The list and stored block that document 01, and document 02's S-4, make of a choice, into the areas of the laws; how many records. */
+static void tally_matches(const struct input *in)
+{
+    for (size_t i = 0; i < records(in); i++) {
+        if (record(in->list, i)[0] == 0)
+            continue;
+        matches++;
+        held_matches += is_held(in, i);
+        if (i > 0 && record(in->list, i - 1)[0] == 1)
+            *(follows(in, i) ? &going_on : &not_going_on) += 1;
+        going_on_parted += follows(in, i) && !goes_on(in, i);
+    }
+}
+
+/* The list and stored block that document 01, and document 02's S-4 and S-6, make of a choice, into the areas of the laws; how many records. */
 static size_t list_of_choice(const struct input *in, const uint8_t *choice, size_t *stored)
 {
     size_t entries = 0, offset = 0;
@@ -483,7 +521,7 @@ static void law_of_choice(int call, const struct input *in)
 {
     const uint8_t *choice = area(CHOICE, LIBRARY);
     for (size_t i = 0; i < records(in); i++)
-        if (choice[i] > 1 || (record(in->list, i)[0] == 0 && choice[i] != 1))
+        if (choice[i] > 1 || (record(in->list, i)[0] == 0 && choice[i] != 1) || (is_held(in, i) && choice[i] != 0))
             differ(call, "a choice byte that no choice for this list has", in);
     size_t stored;
     const size_t entries = list_of_choice(in, choice, &stored);
@@ -520,6 +558,25 @@ static void law_of_rebuild(int call, const struct input *in)
         differ(call, "the written list rebuilds another version", in);
 }
 
+/* Byte by byte of the version: what was held is held, and drawn from where it was, and nothing else is held. */
+static void law_of_held(int call, const struct input *in)
+{
+    const uint8_t *a = in->list, *b = area(LIST, LIBRARY);
+    uint32_t into_a = 0, into_b = 0, part;
+    for (size_t left = in->version_len; left > 0; left -= part) {
+        const uint32_t rest_a = get32(a + 4) - into_a, rest_b = get32(b + 4) - into_b;
+        part = rest_a < rest_b ? rest_a : rest_b;
+        if (a[1] != b[1])
+            differ(call, a[1] ? "a held stretch is not held in the written list" : "a stretch is held that was not", in);
+        if (a[1] && (b[0] != 1 || get32(a + 8) + into_a != get32(b + 8) + into_b))
+            differ(call, "a held stretch is not drawn from where it was", in);
+        into_a = part < rest_a ? into_a + part : 0;
+        into_b = part < rest_b ? into_b + part : 0;
+        a += into_a == 0 ? RECORD_BYTES : 0;
+        b += into_b == 0 ? RECORD_BYTES : 0;
+    }
+}
+
 /* The written list comes back from a second partition as it is. */
 static void law_of_second_partition(const struct input *in)
 {
@@ -542,16 +599,18 @@ static void law_of_second_partition(const struct input *in)
             differ(PARTITION, "the second partition chooses otherwise", in);
 }
 
-/* The cost of choice c, record 0 in its highest bit; UINT64_MAX where it keeps a new record. */
-static uint64_t cost_of_bits(const struct input *in, uint32_t c)
+/* The cost of choice c, record 0 in its highest bit; UINT64_MAX where it keeps a new record. Whether it keeps the held ones. */
+static uint64_t cost_of_bits(const struct input *in, uint32_t c, int *keeps_held)
 {
     const size_t n = records(in);
     uint64_t cost = 0;
     uint32_t last = 0;
+    *keeps_held = 1;
     for (size_t i = 0; i < n; i++) {
         const uint32_t bit = c >> (n - 1 - i) & 1;
         if (!bit && record(in->list, i)[0] == 0)
             return UINT64_MAX;
+        *keeps_held &= !(bit && is_held(in, i));
         const uint64_t new_entry = last ? 0 : new_cost(in), match = !last && goes_on(in, i) ? 0 : match_cost(in);
         cost += bit ? new_entry + UINT64_C(256) * size_at(in, i) : match;
         last = bit;
@@ -559,20 +618,26 @@ static uint64_t cost_of_bits(const struct input *in, uint32_t c)
     return cost;
 }
 
-/* All choices, the one with 0 at the first difference first: the first of those that cost least is the least choice. */
+/* All choices that keep the held matches, the one with 0 at the first difference first: the first of those that cost least is the least choice. */
 static void law_of_least(const struct input *in)
 {
     const size_t n = records(in);
     const uint8_t *choice = area(CHOICE, LIBRARY);
-    uint64_t least = UINT64_MAX;
+    uint64_t least = UINT64_MAX, least_of_others = UINT64_MAX;
     uint32_t first = 0, equals = 0;
     for (uint32_t c = 0; c < 1u << n; c++) {
-        const uint64_t cost = cost_of_bits(in, c);
+        int keeps_held;
+        const uint64_t cost = cost_of_bits(in, c, &keeps_held);
+        if (!keeps_held) {
+            least_of_others = cost < least_of_others ? cost : least_of_others;
+            continue;
+        }
         equals = cost < least ? 0 : equals + (cost == least);
         first = cost < least ? c : first;
         least = cost < least ? cost : least;
     }
     ties += equals > 0;
+    bound += least_of_others < least;
     if (least != given[PARTITION].cost)
         differ(PARTITION, "the cost is not the least of all choices", in);
     for (size_t i = 0; i < n; i++)
@@ -580,14 +645,14 @@ static void law_of_least(const struct input *in)
             differ(PARTITION, "the choice is not the least of all choices", in);
 }
 
-/* A match that joins no new record, as none stands beside it, is stored exactly where its entry and bytes then cost less; so never where it goes on
- * from the match before it, or the next goes on from it, as it takes no entry then. */
+/* A match that is not held and joins no new record, as none stands beside it, is stored exactly where its entry and bytes then cost less; so never
+ * where it goes on from the match before it, or the next goes on from it, as it takes no entry then. */
 static void law_of_lone_matches(const struct input *in)
 {
     const size_t n = records(in);
     const uint8_t *choice = area(CHOICE, LIBRARY);
     for (size_t i = 0; i < n; i++) {
-        if (record(in->list, i)[0] == 0 || (i > 0 && choice[i - 1]) || (i + 1 < n && choice[i + 1]))
+        if (record(in->list, i)[0] == 0 || is_held(in, i) || (i > 0 && choice[i - 1]) || (i + 1 < n && choice[i + 1]))
             continue;
         const int in_run = goes_on(in, i) || (i + 1 < n && goes_on(in, i + 1));
         const int cheaper = !in_run && new_cost(in) + UINT64_C(256) * size_at(in, i) < match_cost(in);
@@ -645,6 +710,58 @@ static void law_of_compare(const struct input *in)
     *(same == NO ? &no : one_list ? &yes_of_one_list : &yes_of_two_lists) += 1;
 }
 
+/* Takes the marks off a list, into other bytes: 1 in byte 1 of a match becomes 0, and all else stays, sound or not. How many there were. */
+static size_t take_marks(const uint8_t *list, size_t list_len, uint8_t *to)
+{
+    size_t taken = 0;
+    memcpy(to, list, list_len);
+    for (uint8_t *r = to; r + RECORD_BYTES <= to + list_len; r += RECORD_BYTES)
+        if (r[0] == 1 && r[1] == 1) {
+            r[1] = 0;
+            taken++;
+        }
+    return taken;
+}
+
+/* The same inputs without the marks of the first list, and mostly without those of the second; whether the first had some. */
+static int without_marks(const struct input *in, struct input *unmarked)
+{
+    *unmarked = *in;
+    unmarked->list = law_list;
+    if (!one_in(4)) {
+        unmarked->second = law_second;
+        take_marks(in->second, in->second_len, law_second);
+    }
+    return take_marks(in->list, in->list_len, law_list) > 0;
+}
+
+/* The calls on lists without their marks, by whether they were refused. */
+static uint64_t unmarked_calls[CALLS][2];
+
+/* A call that gives the marks no meaning has done what it does without them, to the last byte of every area; it was made just before. */
+static void law_of_marks(int call, const struct input *in, const struct input *unmarked)
+{
+    for (int a = 0; a < AREAS; a++)
+        if (lent[call] >> a & 1)
+            memcpy(areas[a].bytes[LIBRARY], areas[a].bytes[UNTOUCHED], areas[a].len + 2 * GUARD);
+    const uint32_t number = run(call, LIBRARY, unmarked);
+    if (number != given[call].number)
+        differ(call, "another number without the marks", in);
+    for (int a = 0; a < AREAS; a++)
+        if (lent[call] >> a & 1 && memcmp(areas[a].bytes[LIBRARY], areas[a].bytes[REFERENCE], areas[a].len + 2 * GUARD) != 0)
+            differ(call, "another answer without the marks", in);
+    unmarked_calls[call][number != ACCEPTED]++;
+}
+
+/* A list gives the same version as itself without its marks. */
+static void law_of_compare_without_marks(const struct input *in, const struct input *unmarked)
+{
+    const struct listed marked = { in->list, in->list_len, in->block, in->block_len };
+    const struct listed bare = { unmarked->list, in->list_len, in->block, in->block_len };
+    if (says(marked, bare, in) != YES || says(bare, marked, in) != YES)
+        differ(COMPARE, "no yes of a list and itself without its marks", in);
+}
+
 /* The list handed in with its runs joined, into the areas of the laws; how many records. */
 static size_t join_runs(const struct input *in, size_t *stored)
 {
@@ -688,19 +805,27 @@ static void law_of_pass(const struct input *in)
 /* Compares all calls on one input; the laws follow the call they speak of, while its areas stand. */
 static void try_input(const struct input *in)
 {
+    struct input unmarked;
+    const int marks_taken = one_in(3) && without_marks(in, &unmarked);
     case_count++;
-    try_call(MEASURE, in);
-    try_call(REBUILD, in);
-    try_call(CHECK, in);
-    if (try_call(COMPARE, in))
+    for (int call = MEASURE; call <= COMPARE; call++) {
+        try_call(call, in);
+        if (marks_taken)
+            law_of_marks(call, in, &unmarked);
+    }
+    if (given[COMPARE].number == ACCEPTED) {
         law_of_compare(in);
+        if (marks_taken)
+            law_of_compare_without_marks(in, &unmarked);
+    }
     const int accepted = try_call(PARTITION, in);
     if (accepted) {
         tally_price(in);
-        tally_runs(in);
+        tally_matches(in);
         law_of_choice(PARTITION, in);
         law_of_measure(PARTITION, in);
         law_of_rebuild(PARTITION, in);
+        law_of_held(PARTITION, in);
         law_of_second_partition(in);
         law_of_same_version(PARTITION, in);
         law_of_lone_matches(in);
@@ -713,6 +838,7 @@ static void try_input(const struct input *in)
         law_of_choice(PASS, in);
         law_of_measure(PASS, in);
         law_of_rebuild(PASS, in);
+        law_of_held(PASS, in);
         law_of_same_version(PASS, in);
         law_of_pass(in);
     }
@@ -735,10 +861,11 @@ static void fill_letters(uint8_t *bytes, size_t len, uint32_t letters)
         bytes[i] = (uint8_t)('A' + below(letters));
 }
 
-/* An input with an empty list and a store that is filled later. */
+/* An input with an empty list and a store that is filled later. A third of the lists gets no marks, a third marks on a third of the matches, the
+ * others on two thirds. */
 static struct input empty_input(size_t store_len)
 {
-    struct input in = { 0 };
+    struct input in = { .held_of_3 = below(3) };
     in.list = list_bytes;
     in.version = version_bytes;
     in.store = store_bytes;
@@ -765,12 +892,13 @@ static void append_new(struct input *in, uint32_t size, uint32_t letters)
     in->block_len += size;
 }
 
-/* Appends a match of the store's bytes. */
+/* Appends a match of the store's bytes, held or not by chance. */
 static void append_match(struct input *in, uint32_t size, uint32_t address)
 {
     uint8_t *r = list_bytes + in->list_len;
     memset(r, 0, RECORD_BYTES);
     r[0] = 1;
+    r[1] = below(3) < in->held_of_3;
     put32(r + 4, size);
     put32(r + 8, address);
     memcpy(version_bytes + in->version_len, in->store + address, size);
@@ -846,7 +974,7 @@ static void draw_price(struct input *in)
     in->f = big || one_in(16) ? (one_in(2) ? 65535 : 1 + below(65535)) : small[below(8)];
 }
 
-/* ---- Second lists: of the same version, cut elsewhere, with other places of the store and other kinds ---- */
+/* ---- Second lists: of the same version, cut elsewhere, with other places of the store, other kinds and other marks ---- */
 
 /* Appends so many bytes of the version, from `offset` on, as new; right after a new record they go with that. */
 static void append_second_new(struct input *in, size_t size, size_t offset)
@@ -868,6 +996,7 @@ static void append_second_match(struct input *in, size_t size, size_t address)
     uint8_t *r = in->second + in->second_len;
     memset(r, 0, RECORD_BYTES);
     r[0] = 1;
+    r[1] = (uint8_t)one_in(3);
     put32(r + 4, (uint32_t)size);
     put32(r + 8, (uint32_t)address);
     in->second_len += RECORD_BYTES;
@@ -1007,6 +1136,20 @@ static void damage_kind(struct input *in)
     r[0] = one_in(2) ? r[0] ^ 1 : one_in(2) ? 2 : (uint8_t)below(256);
 }
 
+static uint64_t flipped;
+
+/* Byte 1: a mark on a new record, 2 or more on either, or the other mark of a match, which is no damage. */
+static void damage_mark(struct input *in)
+{
+    uint8_t *r = some_record(in);
+    if (one_in(2)) {
+        r[1] ^= 1;
+        flipped += r[0] == 1 && r[1] <= 1;
+    } else {
+        r[1] = (uint8_t)(one_in(2) ? 2 : 2 + below(254));
+    }
+}
+
 static void damage_zero_bytes(struct input *in)
 {
     some_record(in)[1 + below(3)] = (uint8_t)(1u << below(8));
@@ -1062,7 +1205,7 @@ static void damage_address_wild(struct input *in)
 static void damage_to_new(struct input *in)
 {
     uint8_t *r = some_record(in);
-    r[0] = 0;
+    r[0] = r[1] = 0;
     put32(r + 8, 0);
 }
 
@@ -1154,7 +1297,7 @@ typedef void damage(struct input *in);
 static damage *const damages[] = {
     damage_price_e, damage_price_f, damage_list_len, damage_version_byte, damage_store_byte, damage_version_len,
     damage_store_len, damage_block_len, damage_area, damage_area, damage_answer, damage_k,
-    damage_kind, damage_zero_bytes, damage_size_little, damage_size_wild, damage_size_to_limit, damage_boundary,
+    damage_kind, damage_mark, damage_zero_bytes, damage_size_little, damage_size_wild, damage_size_to_limit, damage_boundary,
     damage_address_little, damage_address_wild, damage_to_new, damage_to_new, damage_list_bit, damage_order,
 };
 enum { DAMAGES = sizeof damages / sizeof damages[0], DAMAGES_WITHOUT_RECORD = 12 };
@@ -1218,6 +1361,7 @@ static void short_lists(void)
     case_kind = "short lists";
     for (size_t i = 0; i < sizeof prices / sizeof prices[0]; i++) {
         struct input in = empty_input(12);
+        in.held_of_3 = 1;
         fill_letters(in.store, in.store_len, 2);
         in.en = prices[i].en;
         in.em = prices[i].em;
@@ -1376,24 +1520,32 @@ static const struct long_list {
     { 255, 1, 65535, { { 0, 8388608 }, { 0, 8388608 }, { 0, 0 } } },
 };
 
+static void try_long_list(const struct long_list *list, uint32_t held_of_3)
+{
+    struct input in = empty_input(VERSION_MOST);
+    in.held_of_3 = held_of_3;
+    in.en = list->en;
+    in.em = list->em;
+    in.f = list->f;
+    for (int j = 0; j < 3 && list->records[j].size > 0; j++) {
+        const uint32_t size = list->records[j].size;
+        if (list->records[j].is_new)
+            append_new(&in, size, 2);
+        else
+            append_match(&in, size, draw_address(&in, size));
+    }
+    complete(&in);
+    try_input(&in);
+}
+
+/* Each without marks, and with some. */
 static void long_cases(void)
 {
     case_kind = "long";
     fill(store_bytes, VERSION_MOST);
     for (size_t i = 0; i < sizeof long_lists / sizeof long_lists[0]; i++) {
-        struct input in = empty_input(VERSION_MOST);
-        in.en = long_lists[i].en;
-        in.em = long_lists[i].em;
-        in.f = long_lists[i].f;
-        for (int j = 0; j < 3 && long_lists[i].records[j].size > 0; j++) {
-            const uint32_t size = long_lists[i].records[j].size;
-            if (long_lists[i].records[j].is_new)
-                append_new(&in, size, 2);
-            else
-                append_match(&in, size, draw_address(&in, size));
-        }
-        complete(&in);
-        try_input(&in);
+        try_long_list(&long_lists[i], 0);
+        try_long_list(&long_lists[i], 2);
     }
 }
 
@@ -1426,13 +1578,13 @@ static void longest_full_case(uint32_t en, uint32_t em, uint32_t f)
 
 /* The columns that each row must reach; a store that is too long is found with the first list. */
 static const char *const required[ROWS] = {
-    "xx.xxxx......x",
-    "x.xxxxxx.xx..x",
-    "x.xxxxxx..xx.x",
-    "x.xxxxxx..x..x",
-    "xxxxxxxxxx..xx",
-    "xxxxxxxxxx..xx",
-    "...xxxxx..x...",
+    "xx.xxxx......xxx",
+    "x.xxxxxx.xx..xxx",
+    "x.xxxxxx..xx.xxx",
+    "x.xxxxxx..x..xxx",
+    "xxxxxxxxxx..xxxx",
+    "xxxxxxxxxx..xxxx",
+    "...xxxxx..x...xx",
 };
 
 static void print_differed(void)
@@ -1451,16 +1603,24 @@ static void print_table(void)
     printf("%-9s  %8s |", "call", "compared");
     for (int column = 0; column < SHORT_END; column++)
         printf(" %7d", column);
-    printf(" %7s %7s\n", "6 end", "9 ans");
+    for (int column = SHORT_END; column < COLUMNS; column++)
+        printf(" %7s", special[column - SHORT_END].name);
+    printf("\n");
     for (int row = 0; row < ROWS; row++) {
         printf("%-9s  %8" PRIu64 " |", call_name[row], compared[row]);
         for (int column = 0; column < COLUMNS; column++)
             printf(" %7" PRIu64, reached[row][column]);
         printf("\n");
     }
-    printf("short lists with another choice as cheap: %" PRIu64 "; passes dearer than partition: %" PRIu64 "\n", ties,
-           dearer_passes);
-    printf("neighbouring matches: %" PRIu64 " go on in the store, %" PRIu64 " do not\n", going_on, not_going_on);
+    printf("short lists with another choice as cheap: %" PRIu64 ", with a cheaper one that stores a held match: %" PRIu64
+           "; passes dearer than partition: %" PRIu64 "\n", ties, bound, dearer_passes);
+    printf("matches: %" PRIu64 ", of them held %" PRIu64 ", marks flipped %" PRIu64 "; neighbouring ones: %" PRIu64 " go on in the store, of them %"
+           PRIu64 " with another mark, %" PRIu64 " do not\n", matches, held_matches, flipped, going_on, going_on_parted, not_going_on);
+    printf("calls on lists without their marks");
+    for (int call = MEASURE; call <= COMPARE; call++)
+        printf("%s %s %" PRIu64 " accepted, %" PRIu64 " refused", call == MEASURE ? ":" : ";", call_name[call], unmarked_calls[call][0],
+               unmarked_calls[call][1]);
+    printf("\n");
     printf("compare: yes of two different lists %" PRIu64 ", of one and the same %" PRIu64 ", no %" PRIu64 "\n", yes_of_two_lists,
            yes_of_one_list, no);
     print_differed();
@@ -1502,10 +1662,38 @@ static int uneven(uint64_t a, uint64_t b, const char *what)
     return 1;
 }
 
+/* Whether a part is less than a quarter of all, or more than two fifths. */
+static int no_third(uint64_t part, uint64_t all, const char *what)
+{
+    if (4 * part >= all && 5 * part <= 2 * all)
+        return 0;
+    printf("differential: %s\n", what);
+    return 1;
+}
+
 static int uneven_counts(void)
 {
     return uneven(yes_of_two_lists, no, "yes of two different lists and no are not given about as often")
-        + uneven(going_on, not_going_on, "neighbouring matches do not go on in the store about as often as they do");
+        + uneven(going_on, not_going_on, "neighbouring matches do not go on in the store about as often as they do")
+        + no_third(held_matches, matches, "not about a third of the matches are held")
+        + no_third(going_on_parted, going_on, "not about a third of the matches that go on have another mark");
+}
+
+/* How many calls were never made without the marks, accepted or refused; and whether no mark was flipped, or none ever bound a short list. */
+static int missing_marks(void)
+{
+    int count = 0;
+    for (int call = MEASURE; call <= COMPARE; call++)
+        for (int refused = 0; refused < 2; refused++)
+            if (unmarked_calls[call][refused] == 0) {
+                printf("differential: %s was never %s without the marks\n", call_name[call], refused ? "refused" : "accepted");
+                count++;
+            }
+    if (flipped == 0 || bound == 0) {
+        printf("differential: no mark was flipped, or no short list would have been cheaper with a held match stored\n");
+        count++;
+    }
+    return count;
 }
 
 /* How many pairs of places within a word had no match that differs. */
@@ -1527,9 +1715,9 @@ static int missing_columns(void)
     for (int row = 0; row < ROWS; row++)
         for (int column = 0; column < COLUMNS; column++)
             if (required[row][column] == 'x' && reached[row][column] == 0) {
-                const int number = column == SHORT_END ? 6 : column == SHORT_ANSWER ? 9 : column;
-                printf("differential: %s never gave %d%s\n", call_name[row], number, column < SHORT_END ? "" :
-                       column == SHORT_END ? " at the short end" : " for the answer area");
+                const int plain = column < SHORT_END;
+                printf("differential: %s never gave %d%s\n", call_name[row], plain ? column : special[column - SHORT_END].number,
+                       plain ? "" : special[column - SHORT_END].where);
                 count++;
             }
     return count;
@@ -1567,7 +1755,7 @@ int main(int argc, char **argv)
         puts("differential: the long store was written to");
         return 1;
     }
-    if (missing_prices() + missing_columns() + missing_places() + uneven_counts() > 0)
+    if (missing_prices() + missing_columns() + missing_places() + uneven_counts() + missing_marks() > 0)
         return 1;
     printf("differential: %" PRIu64 " calls compared, 0 differences\n", calls);
     return 0;

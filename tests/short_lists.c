@@ -47,7 +47,7 @@ static uint64_t bytes_cost(uint64_t bytes)
 /* The most records, and the longest version: 6 records of 8. */
 enum { MOST = 6, LONGEST = 48 };
 
-/* The marks of the pass are of neither kind. */
+/* The front mark and the rear mark of the pass are of neither kind. */
 enum { NEW = 0, MATCH = 1, MARK = 2 };
 
 /* Held is 1 in a match that must be kept, else 0. */
@@ -667,9 +667,9 @@ static int try_round(const struct round *round)
     printf("short_lists: EN %" PRIu32 ", EM %" PRIu32 ", F %" PRIu32 ": %" PRIu64 " lists of %d, %" PRIu64 " choices of %d, %" PRIu64
            " lists with a tie of %" PRIu64 ", %" PRIu64 " passes dearer of %" PRIu64 ", %" PRIu64 " looks of %" PRIu64 ", %" PRIu64
            " matches stored alone of %" PRIu64 "; %" PRIu64 " lists with a held match of %d, %" PRIu64 " cheaper without the mark of %" PRIu64
-           ", %" PRIu64 " with it stored of %" PRIu64 "; %" PRIu64 " wrong\n", price.en, price.em, price.f, count.lists, LISTS, count.choices, CHOICES, count.ties,
-           round->ties, count.dearer, round->dearer, count.looks, round->looks, count.alone, round->alone, count.held, LISTS_HELD, count.cheaper,
-           round->cheaper, count.stored, round->stored, count.wrong);
+           ", %" PRIu64 " with it stored of %" PRIu64 "; %" PRIu64 " wrong\n", price.en, price.em, price.f, count.lists, LISTS, count.choices,
+           CHOICES, count.ties, round->ties, count.dearer, round->dearer, count.looks, round->looks, count.alone, round->alone, count.held,
+           LISTS_HELD, count.cheaper, round->cheaper, count.stored, round->stored, count.wrong);
     return count.lists == LISTS && count.choices == CHOICES && count.ties == round->ties && count.dearer == round->dearer
         && count.looks == round->looks && count.alone == round->alone && count.held == LISTS_HELD && count.cheaper == round->cheaper
         && count.stored == round->stored && count.wrong == 0;
