@@ -23,10 +23,10 @@ enum { EN = 12, EM = 16, F = 4 * 256 };
 
 /* ---- The inputs ---- */
 
-enum kinds { MATCHES, NEWS, TURNS, RUNS };
+enum kinds { MATCHES, NEWS, TURNS, RUNS, SOME_HELD };
 
-/* A list: so many records over so many bytes, all matches, all new (which is one record) or in turns; 0 bytes: small records, by chance or in runs.
- * The second list gives the same version, or one whose first byte differs. */
+/* A list: so many records over so many bytes, all matches, all new (which is one record) or in turns; 0 bytes: small records, by chance, in runs, or
+ * by chance with some matches held. The second list gives the same version, or one whose first byte differs. */
 struct shape {
     const char *name;
     uint32_t records, bytes;
@@ -87,6 +87,13 @@ static void add_small(int *after_new)
     add(!*after_new, size, draw() % 65536);
 }
 
+/* The same, but a match is held in one case of three. */
+static void add_small_or_held(int *after_new)
+{
+    add_small(after_new);
+    in.list[in.list_len - RECORD_BYTES + 1] = !*after_new && draw() % 3 == 0;
+}
+
 /* A small match, of 1 to 48 bytes: half of them go on in the store where the match before them ended. */
 static void add_to_run(uint32_t *end)
 {
@@ -133,6 +140,8 @@ static void set_input(const struct shape *shape)
         if (shape->bytes == 0) {
             if (shape->kinds == RUNS)
                 add_to_run(&end);
+            else if (shape->kinds == SOME_HELD)
+                add_small_or_held(&after_new);
             else
                 add_small(&after_new);
             continue;
@@ -291,6 +300,7 @@ static const struct shape one_match = { "16 MiB, one match", 1, VERSION_MOST, MA
 static const struct shape one_new = { "16 MiB, one new record", 1, VERSION_MOST, NEWS, 0 };
 static const struct shape small = { "4,096 small records", RECORDS_MOST, 0, TURNS, 0 };
 static const struct shape runs = { "4,096 matches in runs", RECORDS_MOST, 0, RUNS, 0 };
+static const struct shape some_held = { "4,096 small, some held", RECORDS_MOST, 0, SOME_HELD, 0 };
 static const struct shape even = { "4,096 records of 48 bytes", RECORDS_MOST, 48 * RECORDS_MOST, TURNS, 0 };
 static const struct shape even_512 = { "512 records of 48 bytes", 512, 48 * 512, TURNS, 0 };
 static const struct shape few_1 = { "1 MiB, 8 records", 8, VERSION_MOST / 16, TURNS, 0 };
@@ -316,7 +326,7 @@ static const struct {
     int first, last;
 } timed[] = {
     { &few, MEASURE, PASS }, { &unlike, COMPARE, COMPARE }, { &many, MEASURE, PASS }, { &one_match, REBUILD, PASS },
-    { &one_new, REBUILD, PASS }, { &small, MEASURE, PASS }, { &runs, PARTITION, PASS },
+    { &one_new, REBUILD, PASS }, { &small, MEASURE, PASS }, { &runs, PARTITION, PASS }, { &some_held, PARTITION, PASS },
 };
 
 static void print_all_times(void)
@@ -348,8 +358,8 @@ int main(int count, char **arguments)
     set_up();
     printf("Library and reference in turn, medians of 3 to %d samples; every buffer was written beforehand. EN %d, EM %d, F %d.\n"
            "Records in turns are new, match, new, match, of one size; small ones have 1 to 128 bytes, new or match by chance; of the matches in\n"
-           "runs, of 1 to 48 bytes, half go on in the store. The second list of compare gives the same version, cut at other places: of a match\n"
-           "behind a new record, half is stored with that; once its first byte differs.\n\n",
+           "runs, of 1 to 48 bytes, half go on in the store; where some are held, it is one match of three. The second list of compare gives the\n"
+           "same version, cut at other places: of a match behind a new record, half is stored with that; once its first byte differs.\n\n",
            SAMPLES, EN, EM, F);
     print_all_times();
     print_all_growth();

@@ -2,7 +2,7 @@
  *
  * Each call runs on a stack of its own that is painted beforehand, and the depth is where the paint ends. Two paints are used, since
  * a call may write a byte that looks like one. The few frames that lead to the call are counted with it, and `nothing` shows them
- * alone. The lists are full (4,096 records) and lead through the merges of the pass, a stored and a kept list, and refusals.
+ * alone. The lists are full (4,096 records) and lead through the merges of the pass, a stored and a kept list, held matches, and refusals.
  *
  * One line for each call, in bytes. Exit 0 where none takes more than controller.h says: 1 KiB, and 64 KiB for pass; else 1.
  */
@@ -30,23 +30,26 @@ static struct {
 static uint8_t zeros[BYTES];
 static uint8_t choice[RECORDS_MOST], list_area[RECORDS_MOST * RECORD_BYTES], area[BYTES], answer[ANSWER_BYTES];
 
-/* A list: sizes from `size` on, which go round in `round`, and a new record at each multiple of `new_every`, if that is not 0. */
+/* A list: sizes from `size` on, which go round in `round`, a new record at each multiple of `new_every`, and of the matches a held one at each
+ * multiple of `held_every`, if these are not 0. */
 struct shape {
     const char *name;
     uint32_t en, em, f;
-    unsigned size, round, new_every;
+    unsigned size, round, new_every, held_every;
     uint32_t number;
 };
 
-/* At 10 disk bytes for an entry no merge, then merges 1 to 4; all stored at the greatest price; refused at the price, and at the last record. */
+/* At 10 disk bytes for an entry no merge, then merges 1 to 4, and merges between held matches; all stored at the greatest price; refused at the
+ * price, and at the last record. */
 static const struct shape shapes[] = {
-    { "matches kept", 10, 10, 256, 20, 1, 0, ACCEPTED },
-    { "merge 1", 10, 10, 256, 19, 1, 2, ACCEPTED },
-    { "merges 2 and 3", 10, 10, 256, 5, 9, 7, ACCEPTED },
-    { "merge 4", 10, 10, 256, 4, 1, 0, ACCEPTED },
-    { "all stored", 255, 255, 65535, 9, 40, 3, ACCEPTED },
-    { "price refused", 0, 0, 256, 9, 1, 3, BAD_PRICE },
-    { "last record refused", 10, 10, 256, 9, 1, 3, MALFORMED_RECORD },
+    { "matches kept", 10, 10, 256, 20, 1, 0, 0, ACCEPTED },
+    { "merge 1", 10, 10, 256, 19, 1, 2, 0, ACCEPTED },
+    { "merges 2 and 3", 10, 10, 256, 5, 9, 7, 0, ACCEPTED },
+    { "merge 4", 10, 10, 256, 4, 1, 0, 0, ACCEPTED },
+    { "merges between held matches", 10, 10, 256, 4, 2, 11, 3, ACCEPTED },
+    { "all stored", 255, 255, 65535, 9, 40, 3, 0, ACCEPTED },
+    { "price refused", 0, 0, 256, 9, 1, 3, 0, BAD_PRICE },
+    { "last record refused", 10, 10, 256, 9, 1, 3, 0, MALFORMED_RECORD },
 };
 
 enum { SHAPES = sizeof shapes / sizeof *shapes };
@@ -62,6 +65,7 @@ static void set_input(const struct shape *shape)
         const int is_new = shape->new_every && i % shape->new_every == 0;
         uint8_t *record = input.list + RECORD_BYTES * i;
         record[0] = !is_new;
+        record[1] = !is_new && shape->held_every && i % shape->held_every == 0;
         record[4] = (uint8_t)size;
         input.length += size;
         input.stored += is_new ? size : 0;
