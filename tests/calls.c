@@ -52,7 +52,7 @@ static size_t list_of(const char *text, uint8_t *list)
         if (*end == '@')
             address = (uint32_t)strtoul(end + 1, &end, 10);
         put_record(list, n, kind, size, address);
-        list[RECORD_BYTES * n + 1] = *text == 'H';
+        list[RECORD_BYTES * n + 1] = *text == 'H' ? MARK_HELD : 0;
         if (*end == '!') {
             uint8_t *byte = list + RECORD_BYTES * n + strtoul(end + 1, &end, 10);
             *byte = *end == '=' ? (uint8_t)strtoul(end + 1, &end, 10) : 7;

@@ -2,11 +2,10 @@
 -- In order: what a record comes to without its mark; the checks; the calls; held matches in partition and pass.
 -- Assumes nothing.
 use Prim.Native.Nat.{ℕ, zero, suc, _+_, _*_}
-use native.Mathlib.Omega.{arith}
 use mathlib.Core.Path.{_≡_, refl, _∙_, ap, ap₂}
 use mathlib.Core.List.{List, [], _∷_, _++_}
 use lib.ListN.{length, take, drop, getD}
-use denote.Ref.{RefT, now}
+use denote.Ref.{now}
 use Rattle.format.specs.declared.Record.{Record}
 use Rattle.format.specs.declared.Record.the-variants.{New, Match}
 use Rattle.format.specs.declared.Ruling.the-variants.{Fine}
@@ -23,12 +22,9 @@ use Rattle.walk.proofs.Unmarked.{walk-unmarked}
 use Rattle.price.specs.declared.Price.{Price}
 use Rattle.price.specs.declared.Rates.{Rates}
 use Rattle.price.specs.Price.{news, matches, ratesOf}
-use Rattle.measure.specs.Measure.{measureRuling, measures, measured}
-use Rattle.area.specs.Area.{Areas}
-use Rattle.show.specs.Check.{inputsRuling, checkRuling, checked}
-use Rattle.show.specs.Show.{shown}
-use Rattle.rebuild.specs.Rebuild.{rebuildRuling, rebuildAnswer, rebuildArea}
-use Rattle.compare.specs.Compare.{compared}
+use Rattle.measure.specs.Measure.{measureRuling, measures}
+use Rattle.show.specs.Check.{inputsRuling, checkRuling}
+use Rattle.rebuild.specs.Rebuild.{rebuildRuling}
 use Rattle.choice.specs.Choice.{Bit, IsChoice, listOf}
 use Rattle.choice.proofs.Least.{least-fits}
 use Rattle.choice.proofs.Holding.{keeps-held, bonds-list}

@@ -27,7 +27,7 @@ use Rattle.linear.proofs.Looks.{Pays, seen, look-turns}
 use Rattle.linear.proofs.Running.{Passes, passes}
 use Rattle.linear.proofs.Recovering.{Recovered, recovered}
 
--- what an item adds to the cost; a mark weighs as a match
+-- what an item adds to the cost; one of neither kind is a held match, or a mark, which weighs as much
 abbrev pub priceOf : Rates → Item → ℕ
 priceOf r (new s) = r .fresh .0 + r .byte .0 * s
 priceOf r (match s) = r .kept .0

@@ -23,7 +23,7 @@ pub enum Outcome {
     Merged(Merge),
 }
 
-// A kind and a size: kind 0 is new, 1 a match, 2 a mark.
+// A kind and a size: kind 0 is new, 1 a match, any other neither.
 pub struct Cell {
     pub kind: u8,
     pub size: u32,

@@ -1,5 +1,6 @@
 -- The walk over a list without its marks stops where the walk over the list does.
 -- Assumes nothing.
+use Prim.Native.Nat.{ℕ}
 use mathlib.Core.Path.{_≡_, refl, _∙_, ap, ap₂}
 use mathlib.Core.Bool.{Bool}
 use mathlib.Core.List.{List, [], _∷_}
@@ -14,7 +15,6 @@ use Rattle.walk.specs.declared.Seen.{Seen}
 use Rattle.walk.specs.declared.Scope.{Scope}
 use Rattle.walk.specs.declared.Scope.the-variants as scope
 use Rattle.walk.specs.Checks.{limitOf, five, six, beyond, checks, judged, next, walkOn, front, walkRuling}
-use Prim.Native.Nat.{ℕ}
 
 module _ (x : Scope) (v st : List ℕ) where
   -- the checks after check 4 do not read byte 1
