@@ -2,7 +2,7 @@
 -- Assumes nothing.
 use Prim.Native.Nat.{ℕ, _+_, _≤_}
 use native.Mathlib.Omega.{arith}
-use mathlib.Core.Path.{_≡_, refl, sym, _∙_, ap, ap₂}
+use mathlib.Core.Path.{_≡_, refl, sym, _∙_, ap, ap₂, subst}
 use mathlib.Core.Bool.{Bool, true, false, cond}
 use mathlib.Core.Logic.{inl, inr}
 use mathlib.Core.List.{List, [], _∷_}
@@ -15,9 +15,9 @@ use Rattle.price.specs.Price.{cost}
 use Rattle.join.specs.declared.Open.the-variants.{No, One}
 use Rattle.join.specs.Join.{joins, grown, join, tidy}
 use Rattle.join.proofs.Joining.{joins-on, join-on, join-off, settled-tidy, tidy-settled}
-use Rattle.choice.specs.Choice.{Bit, keep, store, only, either, freedom, May, IsChoice, chosenRecord, chosen, listOf, costOf, least, Early, IsLeast, keepAll}
+use Rattle.choice.specs.Choice.{Bit, keep, store, freedom, May, IsChoice, chosenRecord, chosen, listOf, costOf, least, Early, IsLeast, keepAll}
 use Rattle.choice.specs.Path.{walk, best, pick, after, step, entryOf, bytesIn}
-use Rattle.choice.proofs.Path.{Beats, foremost, first, walk-pick, pick-is-first, pick-fits, pick-beats, pick-first, choices-cong, le-beats, early-antisym}
+use Rattle.choice.proofs.Path.{Beats, foremost, first, first-fits, walk-pick, pick-is-first, pick-fits, pick-beats, pick-first, choices-cong, le-beats, early-antisym}
 use Rattle.choice.proofs.Unjoining.{lifted}
 
 module _ (rates : Rates) where
@@ -118,16 +118,12 @@ least-alone r rs c h =
 match-kept : (s : ℕ) (a : Source) → foremost (freedom (Match s a)) ≡ keep
 match-kept s a = go (a .held)
   where
-    go : (h : Bool) → foremost (cond h (only keep) either) ≡ keep
+    go : (h : Bool) → foremost (freedom (Match s (record { address = a .address; held = h }))) ≡ keep
     go true = refl
     go false = refl
 
 pub match-may-keep : (s : ℕ) (a : Source) → May (freedom (Match s a)) keep
-match-may-keep s a = go (a .held)
-  where
-    go : (h : Bool) → May (cond h (only keep) either) keep
-    go true = refl
-    go false = tt
+match-may-keep s a = subst (May (freedom (Match s a))) (match-kept s a) (first-fits (Match s a ∷ []) .0)
 
 -- the foremost choice leaves each record as it is
 chosen-first : (l : List Record) → chosen l (first l) ≡ l

@@ -11,7 +11,7 @@ use Rattle.format.specs.declared.Record.the-variants.{New, Match}
 use Rattle.format.specs.Meaning.{sizeOf}
 use Rattle.join.specs.Join.{joins, grown, joinsFirst, join, tidy}
 use Rattle.join.proofs.Joining.{goes-on, join-on}
-use Rattle.choice.specs.Choice.{Bit, keep, store, only, either, freedom, May, IsChoice, chosenRecord, chosen, listOf}
+use Rattle.choice.specs.Choice.{Bit, keep, store, freedom, May, IsChoice, chosenRecord, chosen, listOf}
 use Rattle.choice.specs.Alone.{isKept, firstKept, storesAlone}
 
 pub keep-store : {A : Type 0} → keep ≡ store → A
@@ -33,7 +33,7 @@ free-joins : (r q : Record) → joins r q ≡ true → freedom r ≡ freedom q
 free-joins (New s) (New t) e = refl
 free-joins (New s) (Match t b) e = cc
 free-joins (Match s a) (New t) e = cc
-free-joins (Match s a) (Match t b) e = ap (λ (h : Bool). cond h (only keep) either) (goes-on s a b e .marks)
+free-joins (Match s a) (Match t b) e = ap (λ (h : Bool). freedom (Match s (record { address = a .address; held = h }))) (goes-on s a b e .marks)
 
 -- they join whether both are kept or both are stored
 joins-chosen : (b : Bit) (r q : Record) → joins r q ≡ true → joins (chosenRecord b r) (chosenRecord b q) ≡ true
