@@ -13,7 +13,7 @@
 
 #include "controller.h"
 
-#define CASES 917
+#define CASES 919
 #define FILL 0xA5
 #define AREA 256
 
@@ -169,6 +169,8 @@ static const struct {
     { "EN 255, EM 1, F 65535", 255, 1, 65535, "N9 M8@0 N7", { .cost = 33492481, .entries = 3, .stored = 16, .whole = 24 } },
     { "EN 1, EM 255, F 65535", 1, 255, 65535, "N9 M8@0 N7", { .cost = 16846591, .entries = 3, .stored = 16, .whole = 24 } },
     { "both kinds, one match held", 10, 10, 256, "N5 H19@0 M4@7 N7", { .cost = DISK_BYTE * 52, .entries = 4, .stored = 12, .whole = 35 } },
+    { "EN 1, EM 7, one new and two held", 1, 7, 512, "H8@0 N4 H8@0", { .cost = 8704, .entries = 3, .stored = 4, .whole = 20 } },
+    { "EN 7, EM 1, one new and two held", 7, 1, 512, "H8@0 N4 H8@0", { .cost = 5632, .entries = 3, .stored = 4, .whole = 20 } },
     { "matches that go on, two held", 10, 10, 256, "M8@0 H8@8 H8@16", { .cost = DISK_BYTE * 30, .entries = 3, .whole = 24 } },
     { "EN 0", 0, 10, 256, "N5", { .number = 1 } },
     { "EN 256", 256, 10, 256, "N5", { .number = 1 } },
