@@ -599,18 +599,16 @@ static void law_of_second_partition(const struct input *in)
             differ(PARTITION, "the second partition chooses otherwise", in);
 }
 
-/* The cost of choice c, record 0 in its highest bit; UINT64_MAX where it keeps a new record. Whether it keeps the held ones. */
-static uint64_t cost_of_bits(const struct input *in, uint32_t c, int *keeps_held)
+/* The cost of choice c, record 0 in its highest bit; UINT64_MAX where it keeps a new record, or stores a held one, which may be allowed. */
+static uint64_t cost_of_bits(const struct input *in, uint32_t c, int held_may_go)
 {
     const size_t n = records(in);
     uint64_t cost = 0;
     uint32_t last = 0;
-    *keeps_held = 1;
     for (size_t i = 0; i < n; i++) {
         const uint32_t bit = c >> (n - 1 - i) & 1;
-        if (!bit && record(in->list, i)[0] == 0)
+        if (bit ? !held_may_go && is_held(in, i) : record(in->list, i)[0] == 0)
             return UINT64_MAX;
-        *keeps_held &= !(bit && is_held(in, i));
         const uint64_t new_entry = last ? 0 : new_cost(in), match = !last && goes_on(in, i) ? 0 : match_cost(in);
         cost += bit ? new_entry + UINT64_C(256) * size_at(in, i) : match;
         last = bit;
@@ -618,26 +616,30 @@ static uint64_t cost_of_bits(const struct input *in, uint32_t c, int *keeps_held
     return cost;
 }
 
+/* Whether a choice that stores a held match would cost less. */
+static int is_bound(const struct input *in, uint64_t least)
+{
+    for (uint32_t c = 0; c < 1u << records(in); c++)
+        if (cost_of_bits(in, c, 1) < least)
+            return 1;
+    return 0;
+}
+
 /* All choices that keep the held matches, the one with 0 at the first difference first: the first of those that cost least is the least choice. */
 static void law_of_least(const struct input *in)
 {
     const size_t n = records(in);
     const uint8_t *choice = area(CHOICE, LIBRARY);
-    uint64_t least = UINT64_MAX, least_of_others = UINT64_MAX;
+    uint64_t least = UINT64_MAX;
     uint32_t first = 0, equals = 0;
     for (uint32_t c = 0; c < 1u << n; c++) {
-        int keeps_held;
-        const uint64_t cost = cost_of_bits(in, c, &keeps_held);
-        if (!keeps_held) {
-            least_of_others = cost < least_of_others ? cost : least_of_others;
-            continue;
-        }
+        const uint64_t cost = cost_of_bits(in, c, 0);
         equals = cost < least ? 0 : equals + (cost == least);
         first = cost < least ? c : first;
         least = cost < least ? cost : least;
     }
     ties += equals > 0;
-    bound += least_of_others < least;
+    bound += one_in(8) && is_bound(in, least);
     if (least != given[PARTITION].cost)
         differ(PARTITION, "the cost is not the least of all choices", in);
     for (size_t i = 0; i < n; i++)
@@ -1483,12 +1485,13 @@ static void store_lengths(void)
     }
 }
 
-/* Lists of one to three long records; a size of 0 ends the list. For EN = EM = 128 an entry costs 32,767 and a half disk bytes, for 255 a
- * 256th more than 65,279; sizes that add up to 2^24 cost 2^32. For EN 1 and EM 255 a lone match is worth storing up to 65,023 bytes, one
- * between new records up to 65,534, two matches up to 130,302; for EN 255 and EM 1 no two matches are. */
+/* Lists of one to three long records, a match as 0, a new record as 1, a held match as 2; a size of 0 ends the list. For EN = EM = 128 an entry
+ * costs 32,767 and a half disk bytes, for 255 a 256th more than 65,279; sizes that add up to 2^24 cost 2^32. For EN 1 and EM 255 a lone match is
+ * worth storing up to 65,023 bytes, one between new records up to 65,534, two matches up to 130,302; for EN 255 and EM 1 no two matches are. The
+ * last ones would be worth storing, or merging with their neighbours, if none were held. */
 static const struct long_list {
     uint32_t en, em, f;
-    struct { int is_new; uint32_t size; } records[3];
+    struct { uint32_t as, size; } records[3];
 } long_lists[] = {
     { 128, 128, 65535, { { 1, 5 }, { 0, 65534 }, { 1, 5 } } },
     { 128, 128, 65535, { { 1, 5 }, { 0, 65535 }, { 1, 5 } } },
@@ -1518,34 +1521,35 @@ static const struct long_list {
     { 255, 1, 65535, { { 1, 5 }, { 0, 65535 }, { 1, 5 } } },
     { 255, 1, 65535, { { 0, 1 }, { 0, 1 }, { 0, 0 } } },
     { 255, 1, 65535, { { 0, 8388608 }, { 0, 8388608 }, { 0, 0 } } },
+    { 128, 128, 65535, { { 1, 5 }, { 2, 65534 }, { 1, 5 } } },
+    { 128, 128, 65535, { { 2, 32767 }, { 1, 1 }, { 0, 32767 } } },
+    { 255, 255, 65535, { { 0, 32639 }, { 2, 32640 }, { 0, 0 } } },
+    { 255, 255, 65535, { { 1, 1 }, { 2, 16777214 }, { 1, 1 } } },
+    { 255, 255, 65535, { { 2, 8388608 }, { 2, 8388608 }, { 0, 0 } } },
+    { 1, 255, 65535, { { 0, 1000000 }, { 2, 65023 }, { 0, 1000000 } } },
+    { 1, 255, 65535, { { 2, 1000000 }, { 0, 65023 }, { 2, 1000000 } } },
+    { 1, 255, 65535, { { 0, 65151 }, { 0, 65151 }, { 2, 1000000 } } },
 };
 
-static void try_long_list(const struct long_list *list, uint32_t held_of_3)
-{
-    struct input in = empty_input(VERSION_MOST);
-    in.held_of_3 = held_of_3;
-    in.en = list->en;
-    in.em = list->em;
-    in.f = list->f;
-    for (int j = 0; j < 3 && list->records[j].size > 0; j++) {
-        const uint32_t size = list->records[j].size;
-        if (list->records[j].is_new)
-            append_new(&in, size, 2);
-        else
-            append_match(&in, size, draw_address(&in, size));
-    }
-    complete(&in);
-    try_input(&in);
-}
-
-/* Each without marks, and with some. */
 static void long_cases(void)
 {
     case_kind = "long";
     fill(store_bytes, VERSION_MOST);
     for (size_t i = 0; i < sizeof long_lists / sizeof long_lists[0]; i++) {
-        try_long_list(&long_lists[i], 0);
-        try_long_list(&long_lists[i], 2);
+        struct input in = empty_input(VERSION_MOST);
+        in.en = long_lists[i].en;
+        in.em = long_lists[i].em;
+        in.f = long_lists[i].f;
+        for (int j = 0; j < 3 && long_lists[i].records[j].size > 0; j++) {
+            const uint32_t as = long_lists[i].records[j].as, size = long_lists[i].records[j].size;
+            in.held_of_3 = as == 2 ? 3 : 0;
+            if (as == 1)
+                append_new(&in, size, 2);
+            else
+                append_match(&in, size, draw_address(&in, size));
+        }
+        complete(&in);
+        try_input(&in);
     }
 }
 
@@ -1612,7 +1616,7 @@ static void print_table(void)
             printf(" %7" PRIu64, reached[row][column]);
         printf("\n");
     }
-    printf("short lists with another choice as cheap: %" PRIu64 ", with a cheaper one that stores a held match: %" PRIu64
+    printf("short lists with another choice as cheap: %" PRIu64 ", of one in eight with a cheaper one that stores a held match: %" PRIu64
            "; passes dearer than partition: %" PRIu64 "\n", ties, bound, dearer_passes);
     printf("matches: %" PRIu64 ", of them held %" PRIu64 ", marks flipped %" PRIu64 "; neighbouring ones: %" PRIu64 " go on in the store, of them %"
            PRIu64 " with another mark, %" PRIu64 " do not\n", matches, held_matches, flipped, going_on, going_on_parted, not_going_on);
