@@ -1488,7 +1488,7 @@ static void store_lengths(void)
 /* Lists of one to three long records, a match as 0, a new record as 1, a held match as 2; a size of 0 ends the list. For EN = EM = 128 an entry
  * costs 32,767 and a half disk bytes, for 255 a 256th more than 65,279; sizes that add up to 2^24 cost 2^32. For EN 1 and EM 255 a lone match is
  * worth storing up to 65,023 bytes, one between new records up to 65,534, two matches up to 130,302; for EN 255 and EM 1 no two matches are. The
- * last ones would be worth storing, or merging with their neighbours, if none were held. */
+ * last eight have held matches: such as would be worth storing, long ones, and such as stand beside matches that are worth it. */
 static const struct long_list {
     uint32_t en, em, f;
     struct { uint32_t as, size; } records[3];
