@@ -4,7 +4,7 @@ use Prim.Native.Nat.{ℕ, suc, _+_, _-_, _*_, _/_, _≤_, _<_}
 use native.Mathlib.Omega.{arith}
 use native.Mathlib.Numerals.{add-one}
 use mathlib.Core.Path.{_≡_, refl, sym, _∙_, ap}
-use mathlib.Core.Bool.{true, false}
+use mathlib.Core.Bool.{Bool, true, false, cond}
 use mathlib.Core.List.{List, [], _∷_, _++_, append-assoc}
 use borrow.Author.Tests.{le-leb, lt-leb, ne-eqb}
 use lib.ListN.{length, getD, take, drop, set}
@@ -46,8 +46,10 @@ module _ (rates : Rates) (o : Open) (r : Record) (kept stored k n : ℕ) (ek : k
   pub better-held : freedom r ≡ only keep → Better rates o r kept stored (way k 0)
   better-held f = record { is = rw (ek, f); cost-most = λ m a b. omega arith; bit-most = omega arith }
 
-  pub better-keep : freedom r ≡ either → k ≤ n → Better rates o r kept stored (way k 0)
-  better-keep f h = record { is = rw (← ek, ← en, f, le-leb k n h); cost-most = λ m a b. omega arith; bit-most = omega arith }
+  -- a match, held or not
+  pub better-keep : (held : Bool) → freedom r ≡ cond held (only keep) either → k ≤ n → Better rates o r kept stored (way k 0)
+  better-keep true f h = better-held f
+  better-keep false f h = record { is = rw (← ek, ← en, f, le-leb k n h); cost-most = λ m a b. omega arith; bit-most = omega arith }
 
   pub better-store : freedom r ≡ either → n < k → Better rates o r kept stored (way n 1)
   better-store f h = record { is = rw (← ek, ← en, f, lt-leb k n h); cost-most = λ m a b. omega arith; bit-most = omega arith }

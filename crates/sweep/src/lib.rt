@@ -76,16 +76,16 @@ fn better(rates: Rates, before: Open, record: Record, kept: Cost, stored: Cost) 
             bit: 1,
         },
         Record::Match(_, source) => {
-            if source.held {
-                return Way { cost: keep, bit: 0 };
+            if store.0 < keep.0 {
+                if source.held {
+                    return Way { cost: keep, bit: 0 };
+                }
+                return Way {
+                    cost: store,
+                    bit: 1,
+                };
             }
-            if keep.0 <= store.0 {
-                return Way { cost: keep, bit: 0 };
-            }
-            Way {
-                cost: store,
-                bit: 1,
-            }
+            Way { cost: keep, bit: 0 }
         }
     }
 }

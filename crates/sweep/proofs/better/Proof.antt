@@ -1,4 +1,4 @@
--- `sweep::better` meets its contract: the record is new, or held; or keeping it comes to no more than storing it, or to more. Assumes nothing.
+-- `sweep::better` meets its contract: the record is new; or storing it comes to less, and it is held or not; or to no less. Assumes nothing.
 use Prim.Native.Nat.{ℕ, _+_}
 use native.Mathlib.Omega.{arith}
 use mathlib.Core.Path.{_∙_, ap}
@@ -32,13 +32,13 @@ enum-known-record c = search needs
 
 returns : tie.Need-returns
 returns c =
-    let d = c .before .before .before .before .before .before in
+    let d = c .before .before .before .before .before .before .before .before .before in
     let g = d .before .before .before .before .before .args in
     let k = d .before .before .before .before .added in
     let s = d .added2 in
     let ek = ap (λ (x : ℕ). x + g .kept .0) (k .ensures .is) in
     let en = ap (λ (x : ℕ). x + g .stored .0) (s .ensures .is ∙ ap (added (g .rates) (g .before)) (d .before .chosen .ensures)) in
-    better-held (g .rates) (g .before) (g .«record») (g .kept .0) (g .stored .0) _ _ ek en (omega (arith, k .ensures .most)) (omega (arith, s .ensures .most)) (ap freedom (c .before .before .«record» .given .1) ∙ rw (c .if1 .taken))
+    better-held (g .rates) (g .before) (g .«record») (g .kept .0) (g .stored .0) _ _ ek en (omega (arith, k .ensures .most)) (omega (arith, s .ensures .most)) (ap freedom (c .before .before .before .before .before .«record» .given .1) ∙ rw (c .if2 .taken))
 
 returns-2 : tie.Need-returns-2
 returns-2 c =
@@ -48,7 +48,7 @@ returns-2 c =
     let s = d .added2 in
     let ek = ap (λ (x : ℕ). x + g .kept .0) (k .ensures .is) in
     let en = ap (λ (x : ℕ). x + g .stored .0) (s .ensures .is ∙ ap (added (g .rates) (g .before)) (d .before .chosen .ensures)) in
-    better-keep (g .rates) (g .before) (g .«record») (g .kept .0) (g .stored .0) _ _ ek en (omega (arith, k .ensures .most)) (omega (arith, s .ensures .most)) (ap freedom (c .before .before .before .before .before .«record» .given .1) ∙ rw (c .before .before .before .if1 .left)) (omega arith)
+    better-store (g .rates) (g .before) (g .«record») (g .kept .0) (g .stored .0) _ _ ek en (omega (arith, k .ensures .most)) (omega (arith, s .ensures .most)) (ap freedom (c .before .before .before .before .before .«record» .given .1) ∙ rw (c .if2 .left)) (omega arith)
 
 returns-3 : tie.Need-returns-3
 returns-3 c =
@@ -62,13 +62,13 @@ returns-3 c =
 
 returns-4 : tie.Need-returns-4
 returns-4 c =
-    let d = c .before .before .before .before .before .before .before .before .before in
+    let d = c .before .before .before .before .before .before .before .before in
     let g = d .before .before .before .before .before .args in
     let k = d .before .before .before .before .added in
     let s = d .added2 in
     let ek = ap (λ (x : ℕ). x + g .kept .0) (k .ensures .is) in
     let en = ap (λ (x : ℕ). x + g .stored .0) (s .ensures .is ∙ ap (added (g .rates) (g .before)) (d .before .chosen .ensures)) in
-    better-store (g .rates) (g .before) (g .«record») (g .kept .0) (g .stored .0) _ _ ek en (omega (arith, k .ensures .most)) (omega (arith, s .ensures .most)) (ap freedom (c .before .before .before .before .before .«record» .given .1) ∙ rw (c .before .before .before .if1 .left)) (omega arith)
+    better-keep (g .rates) (g .before) (g .«record») (g .kept .0) (g .stored .0) _ _ ek en (omega (arith, k .ensures .most)) (omega (arith, s .ensures .most)) (c .before .before .before .before .«record» .given .0 .1 .0 .held) (ap freedom (c .before .before .before .before .«record» .given .1)) (omega arith)
 
 pub better-spec : {M : Type 1} → statement M
 better-spec =
