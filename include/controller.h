@@ -237,10 +237,10 @@ uint32_t partition(uint32_t en, uint32_t em, uint32_t f,
  *
  * Does: joins the runs of matches that go on in the store, as partition does; then moves a cursor over the list, and merges a short match into
  *   new neighbours, or two short matches into a new record, by the five rules of docs/SPECIFICATION.md ("Pass"); one look at a record at a time,
- *   at most 2n - 1 of them for n records, each run counted as one. A held match is looked at and passed by, and merged with nothing. It never
- *   stores a match that stands alone, which may be worth it where EN is less than EM.
+ *   at most 2n - 1 of them for n records, each run counted as one. A held match is looked at and passed by, and merged with nothing. The pass
+ *   never stores a match that stands alone, which may be worth it where EN is less than EM.
  * Areas, writes, refuses, on refusal, returns: as for partition. answer also gives the looks. The list costs no less than partition's
- *   and no more than the one handed in, as measure prices that. It is no faster: on 4,096 short records it takes four to twenty times as long as partition. */
+ *   and no more than the one handed in, as measure prices that. It is no faster: on 4,096 short records it took 7 to 25 times as long as partition. */
 uint32_t pass(uint32_t en, uint32_t em, uint32_t f,
               const uint8_t *list, size_t list_len,
               const uint8_t *version, size_t version_len,

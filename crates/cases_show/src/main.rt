@@ -14,9 +14,10 @@ const MATCHES: [u8; 36] =
 const HELD: [u8; 36] =
     *b"\x01\x01\0\0\x03\0\0\0\0\0\0\0\0\0\0\0\x01\0\0\0\0\0\0\0\x01\x01\0\0\x02\0\0\0\x07\0\0\0";
 
-// N5 M5@15, the new record marked; and M5@15 with a byte 1 of 2.
+// N5 M5@15, with a mark on the new record.
 const MARKED_NEW: [u8; 24] = *b"\0\x01\0\0\x05\0\0\0\0\0\0\0\x01\0\0\0\x05\0\0\0\x0f\0\0\0";
 
+// M5@15, with a byte 1 of 2.
 const MARK_OF_2: [u8; 12] = *b"\x01\x02\0\0\x05\0\0\0\x0f\0\0\0";
 
 // N5 M5@16, which runs beyond the store.

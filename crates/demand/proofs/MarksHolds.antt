@@ -13,10 +13,10 @@ use Rattle.format.specs.declared.Answer.{Answer}
 use Rattle.format.specs.Refusal.{Accepts, answer, figuresIn}
 use Rattle.format.specs.Record.{recordsOf}
 use Rattle.format.specs.Meaning.{whole, stored, rebuilt, partOf, partAt}
-use Rattle.format.specs.Marks.{unmarked, bonds}
+use Rattle.format.specs.Marks.{bare, bares, unmarked, bonds}
 use Rattle.format.proofs.Rulings.{fine-of-accepts}
 use Rattle.format.proofs.Encoding.{records-encode}
-use Rattle.format.proofs.Unmarking.{fits-unmarked, bare, bares, unread}
+use Rattle.format.proofs.Unmarking.{fits-unmarked, unread, unmarked-encode}
 use Rattle.walk.specs.declared.Scope.the-variants as scope
 use Rattle.walk.proofs.Unmarked.{walk-unmarked}
 use Rattle.price.specs.declared.Price.{Price}
@@ -110,6 +110,7 @@ measure-unread p list = rw (fits-unmarked list, walk-unmarked scope.Sizes [] [] 
 pub marks-unread : MarksUnread
 marks-unread =
     record {
+      without = unmarked-encode;
       in-measure = λ p list. ap₂ answer (measure-unread p list) (unread (measures (ratesOf p)) (measures-bare (ratesOf p)) list);
       in-rebuild = λ list block st area. rw (rebuild-unread list block st area, unread whole whole-bare list);
       in-rebuilt = λ list block st area. rw (rebuild-unread list block st area, unread (λ l. rebuilt l block st) (rebuilt-bare block st) list);

@@ -7,10 +7,11 @@ use mathlib.Core.Bool.{true}
 use mathlib.Core.List.{List}
 use denote.Ref.{RefT}
 use Rattle.format.specs.declared.Source.{Source}
+use Rattle.format.specs.declared.Record.{Record}
 use Rattle.format.specs.declared.Record.the-variants.{Match}
 use Rattle.format.specs.Refusal.{Accepts}
-use Rattle.format.specs.Record.{recordsOf}
-use Rattle.format.specs.Marks.{unmarked, bonds}
+use Rattle.format.specs.Record.{recordsOf, encode}
+use Rattle.format.specs.Marks.{bares, unmarked, bonds}
 use Rattle.price.specs.declared.Price.{Price}
 use Rattle.price.specs.declared.Rates.{Rates}
 use Rattle.measure.specs.Measure.{measured}
@@ -45,8 +46,10 @@ pub record HeldMatches : Type 0 where
 
 -- ---- the other calls
 
--- the answer for a list is the answer for the list without its marks, refused or not; so is the area that rebuild leaves, and the part that is shown
+-- the answer for a list is the answer for the list without its marks, refused or not; so is the area that rebuild leaves, and the part that is shown.
+-- And what is without its marks: of a list that was written, the records without theirs
 pub record MarksUnread : Type 0 where
+  pub without : (l : List Record) → unmarked (encode l) ≡ encode (bares l)
   pub in-measure : (p : Price) (list : List ℕ) → measured p (unmarked list) ≡ measured p list
   pub in-rebuild : (list block st area : List ℕ) → rebuildAnswer (unmarked list) block st area ≡ rebuildAnswer list block st area
   pub in-rebuilt : (list block st area : List ℕ) → rebuildArea (unmarked list) block st area ≡ rebuildArea list block st area

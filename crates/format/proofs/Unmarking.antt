@@ -1,25 +1,32 @@
 -- A list without its marks: its rows are those of the list, but for the marks; so check 4 passes the same ones, and the records differ in nothing but
--- their marks.
+-- their marks. And a list that was written, without its marks.
 -- Assumes nothing.
 use Prim.Native.Nat.{ℕ, zero, suc, _+_, _*_, _-_, _/_, _%_, _≤_, _<_}
 use native.Mathlib.Omega.{arith}
 use native.Mathlib.Nat.{add-zero}
 use mathlib.Core.Path.{_≡_, refl, sym, _∙_, ap, ap₂}
 use mathlib.Core.Bool.{Bool, true, false, not, _&&_, _||_, cond}
-use mathlib.Core.List.{List, [], _∷_}
+use mathlib.Core.List.{List, [], _∷_, _++_}
 use lib.Dec.{eqb, leb}
-use lib.ListN.{length, getD}
+use lib.ListN.{length, getD, length-append}
+use lib.Seq.{getD-append-add}
 use borrow.Author.Tests.{eqb-true, eq-eqb, ne-eqb}
 use Rattle.format.specs.declared.Row.{Row}
 use Rattle.format.specs.declared.Record.{Record}
 use Rattle.format.specs.declared.Record.the-variants.{New, Match}
-use Rattle.format.specs.Record.{from, freeAt, wordAt, rowAt, rowsOf, isNew, sourceOf, recordOf, records, recordsOf, wellFormed, listFits}
+use Rattle.format.specs.Record.{freeAt, from, wordAt, rowAt, rowsOf, isNew, sourceOf, recordOf, records, recordsOf, wellFormed, listFits, bytesOf, encode}
 use Rattle.format.specs.Limits.{listMost}
-use Rattle.format.specs.Marks.{unmarkedByte, unmarked}
+use Rattle.format.specs.Marks.{bare, bares, unmarkedByte, unmarked}
 use Rattle.format.proofs.Rulings.{both-of-and}
-use Rattle.format.proofs.Rows.{length-from}
+use Rattle.format.proofs.Rows.{length-from, from-add}
+use Rattle.format.proofs.Encoding.{length-bytes}
 
 -- ---- the bytes and the rows
+
+-- values from k further on, where they are those of another function
+from-along : (f g : ℕ → ℕ) (k : ℕ) → ((i : ℕ) → f (k + i) ≡ g i) → (i m : ℕ) → from f (k + i) m ≡ from g i m
+from-along f g k e i zero = refl
+from-along f g k e i (suc m) = ap₂ (λ (x : ℕ) (l : List ℕ). x ∷ l) (e i) (let a : k + i + 1 ≡ k + (i + 1) = omega arith in ap (λ (j : ℕ). from f j m) a ∙ from-along f g k e (i + 1) m)
 
 getD-from : (f : ℕ → ℕ) (i j m : ℕ) → j < m → getD (from f i m) j 0 ≡ f (i + j)
 getD-from f i j zero h = absurd (omega arith)
@@ -101,15 +108,6 @@ formed-bare r = go (eqb (r .kind) 1 && eqb (r .byte1) 1) refl
 
 -- ---- the records
 
--- a record without its mark
-abbrev pub bare : Record → Record
-bare (New s) = New s
-bare (Match s a) = Match s (freeAt (a .address))
-
-abbrev pub bares : List Record → List Record
-bares [] = []
-bares (r ∷ l) = bare r ∷ bares l
-
 record-bare : (r : Row) → bare (recordOf (bareRow r)) ≡ bare (recordOf r)
 record-bare r = go (isNew r)
   where
@@ -127,3 +125,42 @@ unread f h list =
     sym (h (recordsOf (unmarked list)))
     ∙ ap f (ap (λ (rs : List Row). bares (records rs)) (rows-unmarked list) ∙ records-bare (rowsOf list))
     ∙ h (recordsOf list)
+
+-- ---- a list that was written
+
+-- the bytes after the first record are those of the rest
+byte-beyond : (r : Record) (t : List ℕ) (i : ℕ) → unmarkedByte (bytesOf r ++ t) (12 + i) ≡ unmarkedByte t i
+byte-beyond r t i = go (eqb (i % 12) 1) refl
+  where
+    at : (j : ℕ) → getD (bytesOf r ++ t) (12 + j) 0 ≡ getD t j 0
+    at j = let e : 12 + j ≡ length (bytesOf r) + j = omega (arith, length-bytes r) in ap (λ (k : ℕ). getD (bytesOf r ++ t) k 0) e ∙ getD-append-add (bytesOf r) t j 0
+
+    round : (12 + i) % 12 ≡ i % 12
+    round = omega arith
+
+    go : (x : Bool) → eqb (i % 12) 1 ≡ x → unmarkedByte (bytesOf r ++ t) (12 + i) ≡ unmarkedByte t i
+    go true e =
+        let back : 12 + i - 1 ≡ 12 + (i - 1) = omega (arith, eqb-true (i % 12) 1 e) in
+        rw (round, back, at i, at (i - 1))
+    go false e = rw (round, e, at i)
+
+unmarked-first : (r : Record) (t : List ℕ) → from (unmarkedByte (bytesOf r ++ t)) 0 12 ≡ bytesOf (bare r)
+unmarked-first (New s) t = refl
+unmarked-first (Match s a) t = go (a .held)
+  where
+    go : (h : Bool) → from (unmarkedByte (bytesOf (Match s (record { address = a .address; held = h })) ++ t)) 0 12 ≡ bytesOf (Match s (freeAt (a .address)))
+    go true = refl
+    go false = refl
+
+unmarked-cons : (r : Record) (t : List ℕ) → unmarked (bytesOf r ++ t) ≡ bytesOf (bare r) ++ unmarked t
+unmarked-cons r t =
+    let f = unmarkedByte (bytesOf r ++ t) in
+    let e : length (bytesOf r ++ t) ≡ 12 + length t = length-append (bytesOf r) t ∙ ap (λ (n : ℕ). n + length t) (length-bytes r) in
+    ap (from f 0) e
+    ∙ from-add f 0 12 (length t)
+    ∙ ap₂ (λ (x y : List ℕ). x ++ y) (unmarked-first r t) (from-along f (unmarkedByte t) 12 (byte-beyond r t) 0 (length t))
+
+-- it is that of the records without their marks
+pub unmarked-encode : (l : List Record) → unmarked (encode l) ≡ encode (bares l)
+unmarked-encode [] = refl
+unmarked-encode (r ∷ l) = unmarked-cons r (encode l) ∙ ap (λ (x : List ℕ). bytesOf (bare r) ++ x) (unmarked-encode l)

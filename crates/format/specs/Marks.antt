@@ -7,13 +7,22 @@ use lib.Dec.{eqb}
 use lib.ListN.{length, getD, replicate}
 use Rattle.format.specs.declared.Record.{Record}
 use Rattle.format.specs.declared.Record.the-variants.{New, Match}
-use Rattle.format.specs.Record.{from}
+use Rattle.format.specs.Record.{freeAt, from}
+
+-- a record without its mark, and the records of a list
+abbrev pub bare : Record → Record
+bare (New s) = New s
+bare (Match s a) = Match s (freeAt (a .address))
+
+abbrev pub bares : List Record → List Record
+bares [] = []
+bares (r ∷ l) = bare r ∷ bares l
 
 -- byte i of a list without its marks: byte 1 of a match, where it is 1, becomes 0; every other byte stays
 abbrev pub unmarkedByte : List ℕ → ℕ → ℕ
 unmarkedByte l i = cond (eqb (i % 12) 1 && eqb (getD l (i - 1) 0) 1 && eqb (getD l i 0) 1) 0 (getD l i 0)
 
--- the bytes of a list without its marks
+-- the bytes of a list without its marks; of a list that was written, those of its records without their marks (`unmarked-encode`)
 abbrev pub unmarked : List ℕ → List ℕ
 unmarked l = from (unmarkedByte l) 0 (length l)
 

@@ -52,7 +52,7 @@ rowsOf l = from (rowAt l) 0 (length l / 12)
 abbrev pub isNew : Row → Bool
 isNew r = eqb (r .kind) 0
 
--- where a match is drawn from; "Byte 1 of a match may now be 1, held"
+-- where a match is drawn from; "Byte 1 of a match may now be 1, 'held'"
 abbrev pub sourceOf : Row → Source
 sourceOf r = record { address = r .address; held = eqb (r .byte1) 1 }
 

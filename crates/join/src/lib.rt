@@ -78,7 +78,7 @@ fn end_of(size: u32, address: u32) -> u64
     (address as u64) + (size as u64)
 }
 
-// Whether a match of so many bytes goes on in another: with the same mark, where it ends.
+// Whether a match of so many bytes goes on in another, which has the same mark and begins where it ends.
 fn goes_on(size: u32, first: Source, second: Source) -> bool
     ensures { λ r. ⌜ r ≡ goesOn size first second ⌝ }
 {
