@@ -42,7 +42,7 @@ pub bits-back : (c : List Bit) (t : List ℕ) → bitsOf (length c) (bitBytes c 
 bits-back [] t = refl
 bits-back (b ∷ c) t =
     rw (bit-byte b (bitBytes c ++ t))
-    (ap (λ (l : List Bit). b ∷ l) (from-shift (bitAt (bitByte b ∷ (bitBytes c ++ t))) (bitAt (bitBytes c ++ t)) (bit-shift (bitByte b) (bitBytes c ++ t)) 0 (length c) ∙ bits-back c t))
+    (ap (λ (l : List Bit). b ∷ l) (from-shift (bitAt (bitByte b ∷ (bitBytes c ++ t))) (bitAt (bitBytes c ++ t)) 1 (bit-shift (bitByte b) (bitBytes c ++ t)) 0 (length c) ∙ bits-back c t))
 
 -- the bits of an area that begins with a choice
 pub bits-over : (n : ℕ) (c : List Bit) (area : List ℕ) → length c ≡ n → bitsOf n (over (bitBytes c) area) ≡ c

@@ -72,14 +72,17 @@ word-after r t i k = omega (arith, byte-after r t i k, at 1, at 2, at 3)
 row-after : (r : Record) (t : List ℕ) (i : ℕ) → rowAt (bytesOf r ++ t) (i + 1) ≡ rowAt t i
 row-after r t i = cc (kind-after r t i, byte-after r t i 1, byte-after r t i 2, byte-after r t i 3, word-after r t i 4, word-after r t i 8)
 
-pub from-shift : {A : Type 0} (f g : ℕ → A) → ((i : ℕ) → f (i + 1) ≡ g i) → (i m : ℕ) → from f (i + 1) m ≡ from g i m
-from-shift f g e i zero = refl
-from-shift f g e i (suc m) = rw (e i, from-shift f g e (i + 1) m)
+-- values from k further on, where they are those of another function
+pub from-shift : {A : Type 0} (f g : ℕ → A) (k : ℕ) → ((i : ℕ) → f (i + k) ≡ g i) → (i m : ℕ) → from f (i + k) m ≡ from g i m
+from-shift f g k e i zero = refl
+from-shift {A} f g k e i (suc m) =
+    let next : i + k + 1 ≡ i + 1 + k = omega arith in
+    ap₂ (λ (x : A) (l : List A). x ∷ l) (e i) (ap (λ (j : ℕ). from f j m) next ∙ from-shift f g k e (i + 1) m)
 
 from-encode : (l : List Record) → from (rowAt (encode l)) 0 (length l) ≡ rowsFor l
 from-encode [] = refl
 from-encode (r ∷ l) =
-    rw (row-first r (encode l)) (ap (λ (m : List Row). rowFor r ∷ m) (from-shift (rowAt (bytesOf r ++ encode l)) (rowAt (encode l)) (row-after r (encode l)) 0 (length l) ∙ from-encode l))
+    rw (row-first r (encode l)) (ap (λ (m : List Row). rowFor r ∷ m) (from-shift (rowAt (bytesOf r ++ encode l)) (rowAt (encode l)) 1 (row-after r (encode l)) 0 (length l) ∙ from-encode l))
 
 pub rows-encode : (l : List Record) → rowsOf (encode l) ≡ rowsFor l
 rows-encode l =

@@ -19,14 +19,9 @@ use Rattle.format.specs.Limits.{listMost}
 use Rattle.format.specs.Marks.{bare, bares, unmarkedByte, unmarked}
 use Rattle.format.proofs.Rulings.{both-of-and}
 use Rattle.format.proofs.Rows.{length-from, from-add}
-use Rattle.format.proofs.Encoding.{length-bytes}
+use Rattle.format.proofs.Encoding.{length-bytes, from-shift}
 
 -- ---- the bytes and the rows
-
--- values from k further on, where they are those of another function
-from-along : (f g : ℕ → ℕ) (k : ℕ) → ((i : ℕ) → f (k + i) ≡ g i) → (i m : ℕ) → from f (k + i) m ≡ from g i m
-from-along f g k e i zero = refl
-from-along f g k e i (suc m) = ap₂ (λ (x : ℕ) (l : List ℕ). x ∷ l) (e i) (let a : k + i + 1 ≡ k + (i + 1) = omega arith in ap (λ (j : ℕ). from f j m) a ∙ from-along f g k e (i + 1) m)
 
 getD-from : (f : ℕ → ℕ) (i j m : ℕ) → j < m → getD (from f i m) j 0 ≡ f (i + j)
 getD-from f i j zero h = absurd (omega arith)
@@ -129,18 +124,18 @@ unread f h list =
 -- ---- a list that was written
 
 -- the bytes after the first record are those of the rest
-byte-beyond : (r : Record) (t : List ℕ) (i : ℕ) → unmarkedByte (bytesOf r ++ t) (12 + i) ≡ unmarkedByte t i
+byte-beyond : (r : Record) (t : List ℕ) (i : ℕ) → unmarkedByte (bytesOf r ++ t) (i + 12) ≡ unmarkedByte t i
 byte-beyond r t i = go (eqb (i % 12) 1) refl
   where
-    at : (j : ℕ) → getD (bytesOf r ++ t) (12 + j) 0 ≡ getD t j 0
-    at j = let e : 12 + j ≡ length (bytesOf r) + j = omega (arith, length-bytes r) in ap (λ (k : ℕ). getD (bytesOf r ++ t) k 0) e ∙ getD-append-add (bytesOf r) t j 0
+    at : (j : ℕ) → getD (bytesOf r ++ t) (j + 12) 0 ≡ getD t j 0
+    at j = let e : j + 12 ≡ length (bytesOf r) + j = omega (arith, length-bytes r) in ap (λ (k : ℕ). getD (bytesOf r ++ t) k 0) e ∙ getD-append-add (bytesOf r) t j 0
 
-    round : (12 + i) % 12 ≡ i % 12
+    round : (i + 12) % 12 ≡ i % 12
     round = omega arith
 
-    go : (x : Bool) → eqb (i % 12) 1 ≡ x → unmarkedByte (bytesOf r ++ t) (12 + i) ≡ unmarkedByte t i
+    go : (x : Bool) → eqb (i % 12) 1 ≡ x → unmarkedByte (bytesOf r ++ t) (i + 12) ≡ unmarkedByte t i
     go true e =
-        let back : 12 + i - 1 ≡ 12 + (i - 1) = omega (arith, eqb-true (i % 12) 1 e) in
+        let back : i + 12 - 1 ≡ i - 1 + 12 = omega (arith, eqb-true (i % 12) 1 e) in
         rw (round, back, at i, at (i - 1))
     go false e = rw (round, e, at i)
 
@@ -158,7 +153,7 @@ unmarked-cons r t =
     let e : length (bytesOf r ++ t) ≡ 12 + length t = length-append (bytesOf r) t ∙ ap (λ (n : ℕ). n + length t) (length-bytes r) in
     ap (from f 0) e
     ∙ from-add f 0 12 (length t)
-    ∙ ap₂ (λ (x y : List ℕ). x ++ y) (unmarked-first r t) (from-along f (unmarkedByte t) 12 (byte-beyond r t) 0 (length t))
+    ∙ ap₂ (λ (x y : List ℕ). x ++ y) (unmarked-first r t) (from-shift f (unmarkedByte t) 12 (byte-beyond r t) 0 (length t))
 
 -- it is that of the records without their marks
 pub unmarked-encode : (l : List Record) → unmarked (encode l) ≡ encode (bares l)
