@@ -28,7 +28,7 @@ getD-from f i j zero h = absurd (omega arith)
 getD-from f i zero (suc m) h = ap f (sym (add-zero i))
 getD-from f i (suc j) (suc m) h = let e : i + 1 + j ≡ i + suc j = omega arith in getD-from f (i + 1) j m (omega arith) ∙ ap f e
 
-pub length-unmarked : (l : List ℕ) → length (unmarked l) ≡ length l
+length-unmarked : (l : List ℕ) → length (unmarked l) ≡ length l
 length-unmarked l = length-from (unmarkedByte l) 0 (length l)
 
 -- a row without its mark
