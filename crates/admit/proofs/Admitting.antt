@@ -2,8 +2,8 @@
 -- Assumes nothing.
 use Prim.Native.Nat.{ℕ, _/_, _≤_}
 use native.Mathlib.Omega.{arith}
-use mathlib.Core.Path.{_≡_, _∙_, ap}
-use mathlib.Core.Bool.{true, false, _&&_}
+use mathlib.Core.Path.{_≡_, refl, sym, _∙_, ap}
+use mathlib.Core.Bool.{Bool, true, false, _&&_}
 use mathlib.Core.List.{List}
 use lib.Dec.{eqb, leb}
 use lib.ListN.{length}
@@ -155,9 +155,30 @@ admitted-of-through price list v st c a b t h =
     let fine = fine-of-through (admitRuling price list v st c a b) (recordsOf list) t h .0 in
     record { fine = fine; sound = sound-of-fine price list v st c a b fine }
 
--- in areas that are long enough, their lengths do not matter
+-- of the areas' lengths it matters only whether they fit
+pub admit-alike : (price : Price) (list v st : List ℕ) (c a b c′ a′ b′ : ℕ) → areasFit list v c a b ≡ areasFit list v c′ a′ b′
+    → admitRuling price list v st c a b ≡ admitRuling price list v st c′ a′ b′
+admit-alike price list v st c a b c′ a′ b′ e = rw e
+
 pub findings-of-long : (price : Price) (list v st : List ℕ) (x : Areas) → LongEnough list v x → partitionRuling price list v st x ≡ findings price list v st
-findings-of-long price list v st x h = rw (h, areas-of-most list v (length list / 12) (length list) (length v) (omega arith) (omega arith) (omega arith))
+findings-of-long price list v st x h =
+    admit-alike price list v st (length (x .choice)) (length (x .list)) (length (x .block)) (length list / 12) (length list) (length v)
+    (h ∙ sym (areas-of-most list v (length list / 12) (length list) (length v) (omega arith) (omega arith) (omega arith)))
+
+-- an admitted call's areas fit; where they do not, a call is refused, by 9 or what comes before it
+pub areas-of-fine : (price : Price) (list v st : List ℕ) (c a b : ℕ) → admitRuling price list v st c a b ≡ Fine → areasFit list v c a b ≡ true
+areas-of-fine price list v st c a b h = passed-of-fine price list v st c a b h .areas
+
+pub stop-of-short : (price : Price) (list v st : List ℕ) (c a b : ℕ) → areasFit list v c a b ≡ false → (x : Refusal) × (admitRuling price list v st c a b ≡ Stop x)
+stop-of-short price list v st c a b h =
+    let x = go (priceFits price) (lengthsFit v st) (listFits list) (walkRuling (checks scope.Version v st) list then need (eqb (whole (recordsOf list)) (length v)) fault.Sizes (length (recordsOf list))) in
+    (x .0, rw h (x .1))
+  where
+    go : (i j k : Bool) (r : Ruling) → (x : Refusal) × (need i fault.Price 0 then need j fault.TooLong 0 then need k fault.ListLength 0 then need false fault.AreaTooShort 0 then r ≡ Stop x)
+    go false j k r = (refuse fault.Price 0, refl)
+    go true false k r = (refuse fault.TooLong 0, refl)
+    go true true false r = (refuse fault.ListLength 0, refl)
+    go true true true r = (refuse fault.AreaTooShort 0, refl)
 
 -- a written list that is well formed is admitted where price, lengths and areas are
 pub fine-of-written : (price : Price) (l : List Record) (v st : List ℕ) (c a b : ℕ) → priceFits price ≡ true → lengthsFit v st ≡ true → length l ≤ 4096

@@ -1,4 +1,4 @@
-// The checks that partition and pass make of their inputs and areas, in their order.
+// The checks that partition, pass, estimate and commit make of their inputs and areas, in their order.
 ghost use mathlib.Core.Path.{_≡_};
 ghost use Rattle.format.specs.Record.{recordsOf};
 ghost use Rattle.walk.specs.Walked.{walked};
@@ -19,7 +19,7 @@ fn lengths_fit(version: &[u8], store: &[u8]) -> bool
 }
 
 // Check 9: whether areas of lengths c, a and b are long enough for choice, list and stored block.
-fn areas_fit(list: &[u8], version: &[u8], c: usize, a: usize, b: usize) -> bool
+pub fn areas_fit(list: &[u8], version: &[u8], c: usize, a: usize, b: usize) -> bool
     ensures { λ r. ⌜ r ≡ areasFit (now (list .entry)) (now (version .entry)) c a b ⌝ }
 {
     if c < list.len() / 12 {

@@ -64,6 +64,10 @@ module _ (rates : Rates) where
   spent (r ∷ rs) [] = record { alone = omega arith; behind = spent-none }
   spent (r ∷ rs) (b ∷ c) = spent-next r rs b c (spent rs c)
 
+  -- the cost of a choice's list is its path's
+  pub cost-walk : (rs : List Record) (c : List Bit) → cost rates (listOf rs c) ≡ walk after (step rates) rs No c
+  cost-walk rs c = spent rs c .alone
+
   -- the tidy form costs no more than the list
   pub cost-tidy : (rs : List Record) → cost rates (tidy rs) ≤ cost rates rs
   cost-tidy [] = omega arith
@@ -78,17 +82,17 @@ module _ (rates : Rates) where
           go false e = omega (arith, cost-cons r (q ∷ l))
 
   pub least-pick : (rs : List Record) → least rates rs ≡ pick after (step rates) rs No
-  least-pick rs = choices-cong (costOf rates rs) (walk after (step rates) rs No) rs (λ c h. spent rs c .alone) ∙ pick-is-first after (step rates) rs No
+  least-pick rs = choices-cong (costOf rates rs) (walk after (step rates) rs No) rs (λ c h. cost-walk rs c) ∙ pick-is-first after (step rates) rs No
 
   pub least-fits : (rs : List Record) → IsChoice rs (least rates rs)
   least-fits rs = rw least-pick (pick-fits after (step rates) rs No)
 
   pub least-cost : (rs : List Record) → costOf rates rs (least rates rs) ≡ best after (step rates) rs No
-  least-cost rs = spent rs (least rates rs) .alone ∙ rw least-pick (walk-pick after (step rates) rs No)
+  least-cost rs = cost-walk rs (least rates rs) ∙ rw least-pick (walk-pick after (step rates) rs No)
 
   -- the least choice against any other: it costs less, or as much and has 0 at the first record where they differ
   pub least-beats : (rs : List Record) (c : List Bit) → IsChoice rs c → Beats (costOf rates rs (least rates rs)) (least rates rs) (costOf rates rs c) c
-  least-beats rs c h = rw (least-cost rs, least-pick rs, spent rs c .alone) (pick-beats after (step rates) rs No c h)
+  least-beats rs c h = rw (least-cost rs, least-pick rs, cost-walk rs c) (pick-beats after (step rates) rs No c h)
 
 -- the least choice is least, and no other is
 pub least-is-least : (r : Rates) (rs : List Record) → IsLeast r rs (least r rs)
@@ -151,10 +155,10 @@ again rates rs = least-pick rates l ∙ pick-first after (step rates) l No (omeg
     cheap = le-beats (least-beats rates rs (up .0) (up .1))
 
     met : cost rates (listOf rs (up .0)) ≡ walk after (step rates) l No p
-    met = ap (cost rates) (up .2) ∙ spent rates l p .alone
+    met = ap (cost rates) (up .2) ∙ cost-walk rates l p
 
     led : cost rates l ≡ walk after (step rates) l No (first l)
-    led = sym (ap (cost rates) (first-list rs (least rates rs))) ∙ spent rates l (first l) .alone
+    led = sym (ap (cost rates) (first-list rs (least rates rs))) ∙ cost-walk rates l (first l)
 
 pub again-list : (rates : Rates) (rs : List Record) → listOf (listOf rs (least rates rs)) (least rates (listOf rs (least rates rs))) ≡ listOf rs (least rates rs)
 again-list rates rs = rw again (first-list rs (least rates rs))
@@ -168,7 +172,11 @@ first-keeps (Match s a ∷ l) = ap₂ (λ (b : Bit) (c : List Bit). b ∷ c) (ma
 pub again-keeps : (rates : Rates) (rs : List Record) → least rates (listOf rs (least rates rs)) ≡ keepAll (listOf rs (least rates rs))
 again-keeps rates rs = again rates rs ∙ first-keeps (listOf rs (least rates rs))
 
--- a choice that keeps all leaves a list without new neighbours as it was
+-- what keeping all leaves of a list is its tidy form
+pub keepAll-list : (l : List Record) → listOf l (keepAll l) ≡ tidy l
+keepAll-list l = ap tidy (ap (chosen l) (sym (first-keeps l)) ∙ chosen-first l)
+
+-- it is a choice
 pub keepAll-is-choice : (l : List Record) → IsChoice l (keepAll l)
 keepAll-is-choice [] = tt
 keepAll-is-choice (New s ∷ l) = (refl, keepAll-is-choice l)

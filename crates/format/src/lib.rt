@@ -9,7 +9,7 @@ ghost use Rattle.format.specs.Refusal.{number, refuse, lengthOnly, entri
 ghost use Rattle.format.specs.Record.{wordAt, rowAt, recordOf, wellFormed, listFits};
 ghost use Rattle.format.specs.Meaning.{sizeOf};
 
-// What is at fault, in the order of the numbers 1 to 11 (`number`).
+// What is at fault, in the order of the numbers 1 to 12 (`number`).
 pub enum Fault {
     Price,
     TooLong,
@@ -22,6 +22,7 @@ pub enum Fault {
     AreaTooShort,
     BlockLength,
     NoSuchRecord,
+    Choice,
 }
 
 // A fault, and the record concerned, counted from 0; 0 where no record is concerned.
@@ -88,6 +89,7 @@ pub fn number_of(fault: Fault) -> u32
         Fault::AreaTooShort => 9,
         Fault::BlockLength => 10,
         Fault::NoSuchRecord => 11,
+        Fault::Choice => 12,
     }
 }
 

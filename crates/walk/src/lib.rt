@@ -41,7 +41,8 @@ pub enum Walked {
     Stopped(Refusal),
 }
 
-fn stop(fault: Fault, place: u32) -> Ruling
+// A check that fails.
+pub fn stop(fault: Fault, place: u32) -> Ruling
     ensures { λ r. ⌜ r ≡ Ruling.Stop (refuse fault place) ⌝ }
 {
     Ruling::Stop(Refusal { fault, place })

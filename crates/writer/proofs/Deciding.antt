@@ -11,10 +11,11 @@ use Rattle.format.specs.declared.Ruling.the-variants.{Fine, Stop}
 use Rattle.format.specs.declared.Refusal.{Refusal}
 use Rattle.format.specs.declared.Answer.{Answer}
 use Rattle.format.specs.declared.Answer.the-variants.{Accepted, Refused}
-use Rattle.format.specs.Refusal.{figuresIn}
+use Rattle.format.specs.Refusal.{Accepts, figuresIn}
 use Rattle.format.specs.Limits.{listMost, versionMost}
 use Rattle.format.specs.Record.{recordsOf, encode}
 use Rattle.format.specs.Meaning.{whole, stored, blockOf}
+use Rattle.format.proofs.Rulings.{fine-of-accepts}
 use Rattle.format.proofs.Rows.{length-recordsOf}
 use Rattle.format.proofs.Encoding.{length-encode}
 use Rattle.format.proofs.Rebuilding.{length-block}
@@ -41,18 +42,26 @@ finishable choice choice′ h l m w c a b k =
       writable = record { list-most = l; version-most = m; in-version = omega (arith, w); in-choice = omega (arith, c, k); in-area = a; in-block = b };
     }
 
+-- the list of a choice area that begins with the choice c
+pub list-over : (list choice choice′ : List ℕ) (c : List Bit) → IsChoice (recordsOf list) c → choice′ ≡ over (bitBytes c) choice → listIn list choice′ ≡ listOf (recordsOf list) c
+list-over list choice choice′ c is-choice chosen =
+    ap (listOf (recordsOf list)) (ap (bitsOf (length list / 12)) chosen ∙ bits-over (length list / 12) c choice (length-choice (recordsOf list) c is-choice ∙ length-recordsOf list))
+
 -- the choice c stands in its area, and the end of the call is as it should be
 pub decided : {q : Ruling} {rates : Rates} {list v choice area block : List ℕ} {c : List Bit} {looks : ℕ} {r : Answer} {choice′ area′ block′ : List ℕ} → q ≡ Fine
     → IsChoice (recordsOf list) c → choice′ ≡ over (bitBytes c) choice → Finished rates list choice′ v looks area block r area′ block′
     → Decided q rates list v c looks (areas choice area block) r (areas choice′ area′ block′)
 decided {q} {rates} {list} {v} {choice} {area} {block} {c} {looks} {r} {choice′} fine is-choice chosen done =
+    let listed : listIn list choice′ ≡ listOf (recordsOf list) c = list-over list choice choice′ c is-choice chosen in
     record {
       answered = rw fine (done .answered ∙ ap (λ (l : List Record). Accepted (figures rates l looks)) listed);
       areas-after = rw (fine, chosen, done .area-after, done .block-after) (ap (λ (l : List Record). areas (over (bitBytes c) choice) (over (encode l) area) (over (blockOf l v) block)) listed);
     }
-  where
-    listed : listIn list choice′ ≡ listOf (recordsOf list) c
-    listed = ap (listOf (recordsOf list)) (ap (bitsOf (length list / 12)) chosen ∙ bits-over (length list / 12) c choice (length-choice (recordsOf list) c is-choice ∙ length-recordsOf list))
+
+-- an accepted call's ruling is fine
+pub decided-fine : {q : Ruling} {rates : Rates} {list v : List ℕ} {c : List Bit} {looks : ℕ} {before : Areas} {r : Answer} {after : Areas} → Decided q rates list v c looks before r after
+    → Accepts r → q ≡ Fine
+decided-fine {q} {rates} {list} {v} {c} {looks} d accepted = fine-of-accepts q (figures rates (listOf (recordsOf list) c) looks) (rw (d .answered) at accepted)
 
 -- a call whose ruling is fine
 module _ {q : Ruling} {rates : Rates} {list v : List ℕ} {c : List Bit} {looks : ℕ} {before : Areas} {r : Answer} {after : Areas} (d : Decided q rates list v c looks before r after) (fine : q ≡ Fine) where

@@ -1,0 +1,22 @@
+-- `commit::may_have` meets its contract: the record is a held match, new, or another match. Assumes nothing.
+use borrow.Author.Needs.{needs}
+use Rattle.commit.proofs.may_have.Statement.{statement}
+use Rattle.commit.proofs.may_have.Tie as tie
+
+enum-told : tie.Need-enum-told
+enum-told c = search needs
+
+enum-known-record : tie.Need-enum-known-record
+enum-known-record c = search needs
+
+returns : tie.Need-returns
+returns c = rw (c .before .before .«record» .given .1, c .if1 .taken)
+
+returns-2 : tie.Need-returns-2
+returns-2 c = rw (c .enum-told .given .1)
+
+returns-3 : tie.Need-returns-3
+returns-3 c = rw (c .before .before .«record» .given .1, c .if1 .left)
+
+pub may-have-spec : {M : Type 1} → statement M
+may-have-spec = tie.close (tie.spec enum-told enum-known-record returns returns-2 returns-3)

@@ -1,0 +1,2 @@
+pub mod Commit
+pub mod Worked
