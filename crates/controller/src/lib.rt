@@ -7,6 +7,8 @@ ghost use Rattle.measure.specs.Measure.{measured};
 ghost use Rattle.show.specs.Check.{checked};
 ghost use Rattle.rebuild.specs.Rebuild.{rebuildAnswer, rebuildArea};
 ghost use Rattle.compare.specs.Compare.{compared};
+ghost use Rattle.estimate.specs.Estimate.{estimateAnswer, estimateArea};
+ghost use Rattle.commit.specs.Commit.{commitAnswer, commitList, commitBlock};
 ghost use Rattle.answer.specs.Layout.{Answered, lent};
 ghost use Rattle.controller.specs.Calls.{PartitionGiven, PassGiven};
 use price::Price;
@@ -61,6 +63,65 @@ pub extern "C" fn partition(
     }
     answer::give(
         call_partition::partition(
+            Price { en, em, f },
+            list,
+            version,
+            store,
+            choice,
+            list_area,
+            block_area,
+        ),
+        answer,
+    )
+}
+
+// Estimate.
+#[no_mangle]
+pub extern "C" fn estimate(
+    en: u32,
+    em: u32,
+    f: u32,
+    list: &[u8],
+    version: &[u8],
+    store: &[u8],
+    choice: &mut [u8],
+    answer: &mut [u8],
+) -> u32
+    ensures { λ r. ⌜ Answered (estimateAnswer (record { en = en; em = em; f = f }) (now (list .entry)) (now (version .entry)) (now (store .entry)) (now (choice .entry))) (now (answer .entry)) r (now (answer .exit)) ⌝ }
+    ensures { λ _. ⌜ now (choice .exit) ≡ lent (now (answer .entry)) (estimateArea (record { en = en; em = em; f = f }) (now (list .entry)) (now (version .entry)) (now (store .entry)) (now (choice .entry))) (now (choice .entry)) ⌝ }
+{
+    if answer.len() < 32 {
+        return 9;
+    }
+    answer::give(
+        estimate::estimate(Price { en, em, f }, list, version, store, choice),
+        answer,
+    )
+}
+
+// Commit.
+#[no_mangle]
+pub extern "C" fn commit(
+    en: u32,
+    em: u32,
+    f: u32,
+    list: &[u8],
+    version: &[u8],
+    store: &[u8],
+    choice: &[u8],
+    list_area: &mut [u8],
+    block_area: &mut [u8],
+    answer: &mut [u8],
+) -> u32
+    ensures { λ r. ⌜ Answered (commitAnswer (record { en = en; em = em; f = f }) (now (list .entry)) (now (version .entry)) (now (store .entry)) (now (choice .entry)) (now («list_area» .entry)) (now («block_area» .entry))) (now (answer .entry)) r (now (answer .exit)) ⌝ }
+    ensures { λ _. ⌜ now («list_area» .exit) ≡ lent (now (answer .entry)) (commitList (record { en = en; em = em; f = f }) (now (list .entry)) (now (version .entry)) (now (store .entry)) (now (choice .entry)) (now («list_area» .entry)) (now («block_area» .entry))) (now («list_area» .entry)) ⌝ }
+    ensures { λ _. ⌜ now («block_area» .exit) ≡ lent (now (answer .entry)) (commitBlock (record { en = en; em = em; f = f }) (now (list .entry)) (now (version .entry)) (now (store .entry)) (now (choice .entry)) (now («list_area» .entry)) (now («block_area» .entry))) (now («block_area» .entry)) ⌝ }
+{
+    if answer.len() < 32 {
+        return 9;
+    }
+    answer::give(
+        commit::commit(
             Price { en, em, f },
             list,
             version,

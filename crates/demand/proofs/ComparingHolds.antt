@@ -28,8 +28,8 @@ use Rattle.choice.specs.Choice.{Bit, IsChoice, listOf}
 use Rattle.choice.proofs.Least.{least-fits}
 use Rattle.admit.specs.Admit.{partitionRuling}
 use Rattle.admit.proofs.Admitting.{Sound, sound-of-fine}
-use Rattle.writer.specs.Decide.{figures, Decided}
-use Rattle.writer.proofs.Deciding.{decided-answer, list-handed-on, block-handed-on}
+use Rattle.writer.specs.Decide.{Decided}
+use Rattle.writer.proofs.Deciding.{decided-fine, decided-answer, list-handed-on, block-handed-on}
 use Rattle.show.specs.Check.{inputsRuling}
 use Rattle.show.proofs.Accepting.{readable-of-inputs}
 use Rattle.rebuild.specs.Rebuild.{rebuildRuling}
@@ -79,7 +79,7 @@ module _ (price : Price) (handed other block st : List ℕ) (x : Call) (y : Rebu
   l = listOf (recordsOf handed) c
 
   fine : partitionRuling price handed v st (x .before) ≡ Fine
-  fine = fine-of-accepts (partitionRuling price handed v st (x .before)) (figures (ratesOf price) l looks) (rw (made .answered) at accepted)
+  fine = decided-fine made accepted
 
   sound : Sound price handed v st (length (x .before .choice)) (length (x .before .list)) (length (x .before .block))
   sound = sound-of-fine price handed v st (length (x .before .choice)) (length (x .before .list)) (length (x .before .block)) fine

@@ -12,8 +12,7 @@ use Rattle.format.specs.declared.Answer.the-variants.{Accepted}
 use Rattle.format.specs.declared.Ruling.the-variants.{Fine}
 use Rattle.format.specs.Refusal.{Accepts, lengthOnly, figuresIn}
 use Rattle.format.specs.Record.{recordsOf, encode}
-use Rattle.format.specs.Meaning.{whole, blockOf, rebuilt}
-use Rattle.format.proofs.Encoding.{records-encode}
+use Rattle.format.specs.Meaning.{whole, blockOf}
 use Rattle.price.specs.declared.Price.{Price}
 use Rattle.price.specs.Price.{ratesOf}
 use Rattle.area.specs.Area.{over, Areas}
@@ -23,12 +22,12 @@ use Rattle.admit.specs.Admit.{findings, partitionRuling, LongEnough}
 use Rattle.admit.proofs.Admitting.{Sound, sound-of-fine, findings-of-long}
 use Rattle.writer.specs.Decide.{figures, laid}
 use Rattle.writer.proofs.Deciding.{decided-answer, decided-areas, list-handed-on, block-handed-on, block-within}
-use Rattle.rebuild.specs.Rebuild.{rebuildRuling, Rebuilt}
+use Rattle.rebuild.specs.Rebuild.{Rebuilt}
 use Rattle.call_partition.specs.Partition.{leastOf, Partitioned}
 use Rattle.linear.proofs.Theorems.{PassHolds, pass-holds}
 use Rattle.call_pass.specs.Pass.{passChoiceOf, passLooksOf}
 use Rattle.demand.specs.Demand.{Calls, writtenList, writtenBlock, Made, Room, Demand, DemandThree, Demonstrated}
-use Rattle.demand.proofs.WrittenList.{whole-written, rebuilt-written, rebuild-accepts, partition-accepts, least-again, list-again}
+use Rattle.demand.proofs.WrittenList.{whole-written, version-back, partition-accepts, least-again, list-again}
 
 accepts-of : {a : Answer} {x : Figures} → a ≡ Accepted x → Accepts a
 accepts-of e = rw e tt
@@ -57,21 +56,8 @@ module _ (price : Price) (list v st : List ℕ) (x : Calls) (fine : findings pri
   rebuilt-made : Rebuilt (encode (listOf (recordsOf list) (leastOf price list))) (blockOf (listOf (recordsOf list) (leastOf price list)) v) st (x .rebuilt .before) (x .rebuilt .answer) (x .rebuilt .after)
   rebuilt-made = rw (list-is, block-is) at (made .rebuilt)
 
-  rebuilt-fine : rebuildRuling (encode (listOf (recordsOf list) (leastOf price list))) (blockOf (listOf (recordsOf list) (leastOf price list)) v) st (x .rebuilt .before) ≡ Fine
-  rebuilt-fine = rebuild-accepts sound (leastOf price list) (least-fits (ratesOf price) (recordsOf list)) (x .rebuilt .before) (room .rebuilt)
-
-  rebuilt-answer : x .rebuilt .answer ≡ Accepted (lengthOnly (length v))
-  rebuilt-answer =
-      rw rebuilt-fine at (rebuilt-made .answered)
-      ∙ ap (λ (l : List Record). Accepted (lengthOnly (whole l))) (records-encode (listOf (recordsOf list) (leastOf price list)))
-      ∙ ap (λ (n : ℕ). Accepted (lengthOnly n)) whole-least
-
-  rebuilt-after : x .rebuilt .after ≡ over v (x .rebuilt .before)
-  rebuilt-after =
-      let l = listOf (recordsOf list) (leastOf price list) in
-      rw rebuilt-fine at (rebuilt-made .area-after)
-      ∙ ap (λ (k : List Record). over (rebuilt k (blockOf l v) st) (x .rebuilt .before)) (records-encode l)
-      ∙ ap (λ (y : List ℕ). over y (x .rebuilt .before)) (rebuilt-written sound (leastOf price list) (least-fits (ratesOf price) (recordsOf list)))
+  back : (x .rebuilt .answer ≡ Accepted (lengthOnly (length v))) × (x .rebuilt .after ≡ over v (x .rebuilt .before))
+  back = version-back sound (leastOf price list) (least-fits (ratesOf price) (recordsOf list)) rebuilt-made (room .rebuilt)
 
   -- partition of what it wrote
   again-made : Partitioned price (encode (listOf (recordsOf list) (leastOf price list))) v st (x .again .before) (x .again .answer) (x .again .after)
@@ -111,9 +97,9 @@ module _ (price : Price) (list v st : List ℕ) (x : Calls) (fine : findings pri
         first-written = decided-areas (made .first) first-fine;
         first-figures = ap figuresIn first-answer;
         is-least = least-is-least (ratesOf price) (recordsOf list);
-        rebuilt-accepted = accepts-of rebuilt-answer;
-        rebuilt-figures = ap figuresIn rebuilt-answer;
-        rebuilt-version = rebuilt-after;
+        rebuilt-accepted = accepts-of (back .0);
+        rebuilt-figures = ap figuresIn (back .0);
+        rebuilt-version = back .1;
         again-accepted = accepts-of again-answer;
         again-figures = ap figuresIn (again-answer ∙ sym first-answer);
         again-written = again-after;

@@ -8,3 +8,4 @@ pub mod LoneHolds
 pub mod ComparingHolds
 pub mod NoRunsHolds
 pub mod MarksHolds
+pub mod SplitHolds

@@ -1,4 +1,4 @@
--- A held match is kept and stays boundTo to its address; and the calls that give the mark no meaning answer as if it were not there.
+-- A held match is kept and stays bound to its address; and the calls that give the mark no meaning answer as if it were not there.
 -- In order: what a record comes to without its mark; the checks; the calls; held matches in partition and pass.
 -- Assumes nothing.
 use Prim.Native.Nat.{ℕ, zero, suc, _+_, _*_}
@@ -8,13 +8,13 @@ use lib.ListN.{length, take, drop, getD}
 use denote.Ref.{now}
 use Rattle.format.specs.declared.Record.{Record}
 use Rattle.format.specs.declared.Record.the-variants.{New, Match}
+use Rattle.format.specs.declared.Ruling.{Ruling}
 use Rattle.format.specs.declared.Ruling.the-variants.{Fine}
 use Rattle.format.specs.declared.Answer.{Answer}
-use Rattle.format.specs.Refusal.{Accepts, answer, figuresIn}
+use Rattle.format.specs.Refusal.{answer, figuresIn}
 use Rattle.format.specs.Record.{recordsOf}
 use Rattle.format.specs.Meaning.{whole, stored, rebuilt, partOf, partAt}
 use Rattle.format.specs.Marks.{bare, bares, unmarked, bonds}
-use Rattle.format.proofs.Rulings.{fine-of-accepts}
 use Rattle.format.proofs.Encoding.{records-encode}
 use Rattle.format.proofs.Unmarking.{fits-unmarked, unread, unmarked-encode}
 use Rattle.walk.specs.declared.Scope.the-variants as scope
@@ -28,15 +28,12 @@ use Rattle.rebuild.specs.Rebuild.{rebuildRuling}
 use Rattle.choice.specs.Choice.{Bit, IsChoice, listOf}
 use Rattle.choice.proofs.Least.{least-fits}
 use Rattle.choice.proofs.Holding.{keeps-held, bonds-list}
-use Rattle.admit.specs.Admit.{partitionRuling}
 use Rattle.admit.proofs.Admitting.{sound-of-fine}
-use Rattle.writer.specs.Decide.{figures, Decided}
-use Rattle.writer.proofs.Deciding.{decided-answer, decided-areas, list-handed-on}
-use Rattle.call_partition.specs.Partition.{leastOf}
+use Rattle.writer.specs.Decide.{Decided}
+use Rattle.writer.proofs.Deciding.{decided-fine, decided-answer, decided-areas, list-handed-on}
 use Rattle.rules.specs.Rules.{testsOf}
 use Rattle.rules.proofs.ByKind.{untouched}
 use Rattle.linear.proofs.Theorems.{pass-holds}
-use Rattle.call_pass.specs.Pass.{passChoiceOf, passLooksOf}
 use Rattle.demand.specs.Demand.{Call}
 use Rattle.demand.specs.Marks.{HeldStay, HeldMatches, MarksUnread}
 
@@ -122,30 +119,26 @@ marks-unread =
 
 -- ---- held matches in partition and pass
 
--- a call that decides for a choice
-module _ (p : Price) (list v st : List ℕ) (x : Call) (c : List Bit) (looks : ℕ)
-    (made : Decided (partitionRuling p list v st (x .before)) (ratesOf p) list v c looks (x .before) (x .answer) (x .after)) (accepted : Accepts (x .answer)) where
-  fine : partitionRuling p list v st (x .before) ≡ Fine
-  fine = fine-of-accepts (partitionRuling p list v st (x .before)) (figures (ratesOf p) (listOf (recordsOf list) c) looks) (rw (made .answered) at accepted)
-
-  held-stay : IsChoice (recordsOf list) c → HeldStay list v x
-  held-stay h =
-      let l = listOf (recordsOf list) c in
-      let written = list-handed-on made fine (ap (λ (a : Answer). 12 * figuresIn a .entries) (decided-answer made fine)) in
-      record {
-        choice = c;
-        written = decided-areas made fine;
-        kept = keeps-held (recordsOf list) c h;
-        bonds-alike = ap (λ (m : List ℕ). bonds (recordsOf m)) written ∙ ap bonds (records-encode l) ∙ bonds-list (recordsOf list) c h;
-      }
+-- an accepted call that decides for a choice
+pub held-stay : {q : Ruling} {rates : Rates} {list v : List ℕ} {x : Call} {c : List Bit} {looks : ℕ} → Decided q rates list v c looks (x .before) (x .answer) (x .after) → q ≡ Fine
+    → IsChoice (recordsOf list) c → HeldStay list v x
+held-stay {q} {rates} {list} {v} {x} {c} {looks} made fine h =
+    let l = listOf (recordsOf list) c in
+    let written = list-handed-on made fine (ap (λ (a : Answer). 12 * figuresIn a .entries) (decided-answer made fine)) in
+    record {
+      choice = c;
+      written = decided-areas made fine;
+      kept = keeps-held (recordsOf list) c h;
+      bonds-alike = ap (λ (m : List ℕ). bonds (recordsOf m)) written ∙ ap bonds (records-encode l) ∙ bonds-list (recordsOf list) c h;
+    }
 
 pub held-matches : HeldMatches
 held-matches =
     record {
-      in-partition = λ p list v st x made accepted. held-stay p list v st x (leastOf p list) 0 made accepted (least-fits (ratesOf p) (recordsOf list));
+      in-partition = λ p list v st x made accepted. held-stay made (decided-fine made accepted) (least-fits (ratesOf p) (recordsOf list));
       in-pass = λ p list v st x made accepted.
-          let none = fine p list v st x (passChoiceOf p list) (passLooksOf p list) (made .decided) accepted in
-          let sound = sound-of-fine p list v st (length (x .before .choice)) (length (x .before .list)) (length (x .before .block)) none in
-          held-stay p list v st x (passChoiceOf p list) (passLooksOf p list) (made .decided) accepted (pass-holds (ratesOf p) (recordsOf list) (sound .well-formed .sized) .choice);
+          let fine = decided-fine (made .decided) accepted in
+          let sound = sound-of-fine p list v st (length (x .before .choice)) (length (x .before .list)) (length (x .before .block)) fine in
+          held-stay (made .decided) fine (pass-holds (ratesOf p) (recordsOf list) (sound .well-formed .sized) .choice);
       in-look = λ r s a e. (rw e, untouched (testsOf r) s);
     }

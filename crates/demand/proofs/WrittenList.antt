@@ -8,7 +8,9 @@ use mathlib.Core.List.{List}
 use lib.ListN.{length}
 use Rattle.format.specs.declared.Record.{Record}
 use Rattle.format.specs.declared.Ruling.the-variants.{Fine}
+use Rattle.format.specs.declared.Answer.{Answer}
 use Rattle.format.specs.declared.Answer.the-variants.{Accepted}
+use Rattle.format.specs.Refusal.{lengthOnly}
 use Rattle.format.specs.Record.{recordsOf, encode}
 use Rattle.format.specs.Meaning.{whole, blockOf, rebuilt}
 use Rattle.format.specs.WellFormed.{WellFormed, Readable}
@@ -19,14 +21,14 @@ use Rattle.price.specs.declared.Price.{Price}
 use Rattle.price.specs.Price.{ratesOf}
 use Rattle.measure.specs.Measure.{measured, measures}
 use Rattle.measure.proofs.Measuring.{measured-fine}
-use Rattle.area.specs.Area.{Areas}
+use Rattle.area.specs.Area.{over, Areas}
 use Rattle.choice.specs.Choice.{Bit, IsChoice, listOf, keepAll}
 use Rattle.choice.proofs.Least.{again-keeps, again-list}
 use Rattle.choice.proofs.Lists.{length-list, well-formed-list}
 use Rattle.admit.specs.Admit.{partitionRuling, LongEnough}
 use Rattle.admit.proofs.Admitting.{Sound, fine-of-written}
 use Rattle.show.specs.Check.{inputsRuling}
-use Rattle.rebuild.specs.Rebuild.{rebuildRuling}
+use Rattle.rebuild.specs.Rebuild.{rebuildRuling, Rebuilt}
 use Rattle.show.proofs.Accepting.{inputs-written}
 use Rattle.rebuild.proofs.Accepting.{rebuild-fine}
 use Rattle.call_partition.specs.Partition.{leastOf}
@@ -68,11 +70,20 @@ module _ {price : Price} {list v st : List ℕ} {c a b : ℕ} (s : Sound price l
   pub inputs-accepted : inputsRuling (encode (listOf (recordsOf list) d)) (blockOf (listOf (recordsOf list) d) v) st ≡ Fine
   inputs-accepted = inputs-written (listOf (recordsOf list) d) (blockOf (listOf (recordsOf list) d) v) st count-written (s .store-most) readable-written
 
-  pub rebuild-accepts : (out : List ℕ) → length v ≤ length out → rebuildRuling (encode (listOf (recordsOf list) d)) (blockOf (listOf (recordsOf list) d) v) st out ≡ Fine
+  rebuild-accepts : (out : List ℕ) → length v ≤ length out → rebuildRuling (encode (listOf (recordsOf list) d)) (blockOf (listOf (recordsOf list) d) v) st out ≡ Fine
   rebuild-accepts out room =
       let l = listOf (recordsOf list) d in
       rebuild-fine (encode l) (blockOf l v) st out inputs-accepted
       (rw (records-encode l, whole-written) room)
+
+  pub version-back : {out : List ℕ} {r : Answer} {after : List ℕ} → Rebuilt (encode (listOf (recordsOf list) d)) (blockOf (listOf (recordsOf list) d) v) st out r after → length v ≤ length out
+      → (r ≡ Accepted (lengthOnly (length v))) × (after ≡ over v out)
+  version-back {out} {r} {after} made room =
+      let l = listOf (recordsOf list) d in
+      let fine = rebuild-accepts out room in (
+        rw fine at (made .answered) ∙ ap (λ (k : List Record). Accepted (lengthOnly (whole k))) (records-encode l) ∙ ap (λ (n : ℕ). Accepted (lengthOnly n)) whole-written,
+        rw fine at (made .area-after) ∙ ap (λ (k : List Record). over (rebuilt k (blockOf l v) st) out) (records-encode l) ∙ ap (λ (y : List ℕ). over y out) rebuilt-written,
+      )
 
   -- handed to partition again, it is accepted
   pub partition-accepts : (x : Areas) → LongEnough (encode (listOf (recordsOf list) d)) v x → partitionRuling price (encode (listOf (recordsOf list) d)) v st x ≡ Fine

@@ -7,3 +7,4 @@ pub mod Lone
 pub mod Comparing
 pub mod NoRuns
 pub mod Marks
+pub mod Split

@@ -1,5 +1,5 @@
-// Demand 3 of the mission: the answers of the calls that its one statement speaks of. The statement is `specs/Demand`; the crate `demonstrate`
-// makes the calls.
+// The answers of calls that are made one after the other: for demand 3 of the mission, whose statement is `specs/Demand`, by the crate `demonstrate`;
+// and for partition in two steps, `specs/Split`, by the crate `split`.
 use format::Answer;
 
 // What the four calls answered: partition, rebuild of what it wrote, partition of what it wrote, and pass.
@@ -8,4 +8,10 @@ pub struct Answers {
     pub rebuilt: Answer,
     pub again: Answer,
     pub passed: Answer,
+}
+
+// What partition in two steps answered: the estimate, and the commitment of its choice.
+pub struct TwoAnswers {
+    pub estimated: Answer,
+    pub committed: Answer,
 }

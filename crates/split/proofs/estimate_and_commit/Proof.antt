@@ -1,0 +1,107 @@
+-- `split::estimate_and_commit` meets its contract: as many bytes as there are records are handed on of what the estimate wrote; each call's contract
+-- is the call's own, and partition's follows from them. Assumes nothing.
+use Prim.Native.Nat.{_-_, _/_}
+use native.Mathlib.Omega.{arith}
+use mathlib.Core.Path.{_≡_, sym, _∙_}
+use lib.ListN.{length}
+use borrow.Author.Tests.{not-true, not-false}
+use Rattle.area.specs.Area.{areas}
+use Rattle.demand.proofs.SplitHolds.{one-call, estimate-refused, choice-there, estimate-committed}
+use borrow.Author.Needs.{needs}
+use Rattle.split.proofs.estimate_and_commit.Statement.{statement}
+use Rattle.split.proofs.estimate_and_commit.Tie as tie
+
+areas-fit-requires : tie.Need-areas-fit-requires
+areas-fit-requires c κs = search needs
+
+commit-requires : tie.Need-commit-requires
+commit-requires c κs = search needs
+
+same-length : tie.Need-same-length
+same-length c = search needs
+
+same-length-2 : tie.Need-same-length-2
+same-length-2 c = search needs
+
+same-length-3 : tie.Need-same-length-3
+same-length-3 c = search needs
+
+returns : tie.Need-returns
+returns c =
+    let g = c .before .before .before .before .before .before .before .before .before .before .before .before .before .before .before .before .args in
+    let before = areas (g .choice .now) (g .list-area .now) (g .block-area .now) in
+    one-call (g .price) (g .list .now) (g .version .now) (g .store .now) before (sym (c .before .before .before .before .before .before .before .before .before .areas-fit .ensures) ∙ not-true _ (c .before .before .before .before .before .before .before .before .if1 .taken)) (c .before .before .before .before .commit .ensures)
+
+estimate-requires : tie.Need-estimate-requires
+estimate-requires c κs = search needs
+
+enum-known-estimated : tie.Need-enum-known-estimated
+enum-known-estimated c = search needs
+
+enum-told : tie.Need-enum-told
+enum-told c = search needs
+
+same-length-4 : tie.Need-same-length-4
+same-length-4 c = search needs
+
+returns-2 : tie.Need-returns-2
+returns-2 c =
+    let g = c .before .before .before .before .before .before .before .before .before .before .before .before .before .before .args in
+    let before = areas (g .choice .now) (g .list-area .now) (g .block-area .now) in
+    estimate-refused (g .price) (g .list .now) (g .version .now) (g .store .now) before (sym (c .before .before .before .before .before .before .before .areas-fit .ensures) ∙ not-false _ (c .before .before .before .before .before .before .if1 .left)) (c .before .before .before .before .estimate .ensures) (c .enum-told .given .1)
+
+sub-commit : tie.Need-sub-commit
+sub-commit c = search needs
+
+part-commit-start : tie.Need-part-commit-start
+part-commit-start c = search needs
+
+part-commit-end : tie.Need-part-commit-end
+part-commit-end c =
+    let g = c .before .before .before .before .before .before .before .before .before .before .before .before .before .before .before .before .args in
+    let before = areas (g .choice .now) (g .list-area .now) (g .block-area .now) in
+    let there = choice-there (g .price) (g .list .now) (g .version .now) (g .store .now) before (sym (c .before .before .before .before .before .before .before .before .before .areas-fit .ensures) ∙ not-false _ (c .before .before .before .before .before .before .before .before .if1 .left)) (c .before .before .before .before .before .before .estimate .ensures) (c .before .before .estimated .given .1) in
+    omega (arith, there, c .before .before .before .before .before .choice .given)
+
+commit-requires-2 : tie.Need-commit-requires-2
+commit-requires-2 c κs = search needs
+
+same-length-5 : tie.Need-same-length-5
+same-length-5 c = search needs
+
+same-length-6 : tie.Need-same-length-6
+same-length-6 c = search needs
+
+same-length-7 : tie.Need-same-length-7
+same-length-7 c = search needs
+
+returns-3 : tie.Need-returns-3
+returns-3 c =
+    let g = c .before .before .before .before .before .before .before .before .before .before .before .before .before .before .before .before .before .before .before .before .before .before .before .before .args in
+    let before = areas (g .choice .now) (g .list-area .now) (g .block-area .now) in
+    let n : length (g .list .now) / 12 - 0 ≡ length (g .list .now) / 12 = omega arith in
+    estimate-committed (g .price) (g .list .now) (g .version .now) (g .store .now) before (sym (c .before .before .before .before .before .before .before .before .before .before .before .before .before .before .before .before .before .areas-fit .ensures) ∙ not-false _ (c .before .before .before .before .before .before .before .before .before .before .before .before .before .before .before .before .if1 .left)) (c .before .before .before .before .before .before .before .before .before .before .before .before .before .before .estimate .ensures) (c .before .before .before .before .before .before .before .before .before .before .estimated .given .1) n (c .before .before .before .before .commit2 .ensures)
+
+pub estimate-and-commit-spec : {M : Type 1} → statement M
+estimate-and-commit-spec =
+    tie.close
+    (tie.spec
+    areas-fit-requires
+    commit-requires
+    same-length
+    same-length-2
+    same-length-3
+    returns
+    estimate-requires
+    enum-known-estimated
+    enum-told
+    same-length-4
+    returns-2
+    sub-commit
+    part-commit-start
+    part-commit-end
+    commit-requires-2
+    same-length-5
+    same-length-6
+    same-length-7
+    returns-3)
