@@ -1,16 +1,15 @@
 /* controller.h - the calls of the deposit box for a controller in C.
  *
  * Scope: the lists of docs/SPECIFICATION.md ("The list"): what they measure, whether they are sound, the version they rebuild, whether two
- * of them give the same one, and the list that costs least. Numbers and byte areas go in; nothing is allocated, nothing is kept between
- * calls, and every call returns on any input. So a call may be made from any thread, and several at once, as long as no area that one
- * writes is used by another. Link with libcontroller.a.
+ * of them give the same one, the list that costs least, and what that would come to. Numbers and byte areas go in; nothing is allocated,
+ * nothing is kept between calls, and every call returns on any input. So a call may be made from any thread, and several at once, as long as
+ * no area that one writes is used by another. Link with libcontroller.a.
  *
  * SURROUNDINGS. The library asks for memcpy and memset, and for nothing else. It has no data of its own. Stack needed, measured by
- * tests/stack.c: measure, rebuild, check, compare and partition under 1 KiB each, pass 61 KiB (its record of kinds and sizes goes by
- * value through each look).
+ * tests/stack.c: pass 61 KiB (its record of kinds and sizes goes by value through each look), each of the other calls under 1 KiB.
  *
- * NAMES. The six calls have plain names. Where they collide with others, give them a prefix: objcopy --redefine-sym measure=box_measure,
- * and so for rebuild, check, compare, partition and pass, on the archive; and declare them so.
+ * NAMES. The eight calls have plain names. Where they collide with others, give them a prefix: objcopy --redefine-sym measure=box_measure,
+ * and so for rebuild, check, compare, partition, estimate, commit and pass, on the archive; and declare them so.
  *
  * AREAS. An area is a pointer and its length in bytes. A length of 0 goes with any pointer that is not NULL. No area that is lent for
  * writing may share a byte with another area of the same call.
@@ -44,8 +43,9 @@
  *   4       4     size: bytes covered, 1 or more, lowest byte first
  *   8       4     address: where a match begins in the store; zero in a new record
  *
- * A HELD MATCH must go on being drawn from the store: partition and pass always keep it. It joins the match before or after it only where
- * that one is held too, and what they write carries the mark. To measure, rebuild, check and compare the mark means nothing.
+ * A HELD MATCH must go on being drawn from the store: partition, estimate and pass always keep it, and commit refuses a choice that does not.
+ * It joins the match before or after it only where that one is held too, and what is written carries the mark. To measure, rebuild, check and
+ * compare the mark means nothing.
  *
  * THE NUMBERS, by their cause:
  *
@@ -55,12 +55,14 @@
  *    2  the version is over 16,777,216 bytes, or the store over 268,435,456
  *    9  an area too short
  *   11  there is no record k
+ *   12  a choice that is not one byte for each record (place: 0), or has a byte over 1, a 0 for a new record or a 1 for a held match (place:
+ *       the first such record)
  *   the finder of matches
  *    3  the list's length is no multiple of 12, or over 49,152
  *    4  a record of other kind, with a byte 1 over 1 or a nonzero byte 2 or 3, of size 0, or a new record with a mark or an address
  *    5  a new record right after a new one
- *    6  the sizes pass the version's length (in measure, rebuild, check and compare: 16,777,216) at this record; or, in partition
- *       and pass, they end short of it (place: the number of records)
+ *    6  the sizes pass the version's length (in measure, rebuild, check and compare: 16,777,216) at this record; or, in partition,
+ *       estimate, commit and pass, they end short of it (place: the number of records)
  *    7  a match runs beyond the store
  *    8  a match's bytes differ from the version
  *   the disk
@@ -80,7 +82,7 @@ extern "C" {
 #define ANSWER_BYTES 32
 
 /* The version of this library: it grows when a call, an answer or a number changes. */
-#define CONTROLLER_VERSION 6
+#define CONTROLLER_VERSION 7
 
 /* EN and EM are 1 to E_MOST, F is 1 to F_MOST. */
 #define E_MOST 255
@@ -114,7 +116,8 @@ enum {
     MISMATCH = 8,
     AREA_TOO_SHORT = 9,
     BAD_BLOCK_LENGTH = 10,
-    NO_SUCH_RECORD = 11
+    NO_SUCH_RECORD = 11,
+    BAD_CHOICE = 12
 };
 
 /* A sentence for a number. */
@@ -133,6 +136,7 @@ static inline const char *number_text(uint32_t number)
     case AREA_TOO_SHORT: return "an area is too short";
     case BAD_BLOCK_LENGTH: return "the stored block is not as long as the new sizes together";
     case NO_SUCH_RECORD: return "there is no such record";
+    case BAD_CHOICE: return "the choice is not one byte for each record, or has a byte that its record may not have";
     default: return "no number of this library";
     }
 }
@@ -232,6 +236,43 @@ uint32_t partition(uint32_t en, uint32_t em, uint32_t f,
                    uint8_t *list_area, size_t list_area_len,
                    uint8_t *block_area, size_t block_area_len,
                    uint8_t *answer, size_t answer_len);
+
+/* estimate - what partition would come to, before an area is taken for its list and its stored block.
+ *
+ * Does: finds partition's choice, and gives cost, entries and stored bytes as partition would.
+ * Areas: list, version and store as for partition; choice, 1 byte for each record; no other.
+ * Writes: the first bytes of choice, as partition does; bytes beyond are unchanged. answer (cost, entries and stored bytes).
+ * Refuses, in this order: 1 at 0; 2 at 0; 3 at 0; 9 at 0, by the area for choice alone; record by record 4, 5, 6, 7, 8 at the record; 6 at
+ *   the number of records.
+ * On refusal: answer holds number and place; choice is unchanged.
+ * Returns: the number. */
+uint32_t estimate(uint32_t en, uint32_t em, uint32_t f,
+                  const uint8_t *list, size_t list_len,
+                  const uint8_t *version, size_t version_len,
+                  const uint8_t *store, size_t store_len,
+                  uint8_t *choice, size_t choice_len,
+                  uint8_t *answer, size_t answer_len);
+
+/* commit - the list and the stored block of a choice.
+ *
+ * Does: writes the list of a choice, least or not, joined as partition joins, with its stored block. After an estimate, with the bytes that it
+ *   wrote (choice_len the number of records) and the same list, version, store and price, it gives what partition gives.
+ * Areas: list, version and store as for partition; choice, which is read, just 1 byte for each record: 1 for a new one, 0 for a held match, 0
+ *   (kept) or 1 (stored) for another match; list_area, as long as list; block_area, as long as version.
+ * Writes: the first bytes of list_area and of block_area, as partition does; bytes beyond are unchanged. answer (cost, entries and stored bytes
+ *   of the list written).
+ * Refuses, in this order: 1 at 0; 2 at 0; 3 at 0; 9 at 0, by list_area and block_area; record by record 4, 5, 6, 7, 8 at the record; 6 at the
+ *   number of records; 12 at 0 for a choice that is too short or too long; 12 at the first record with a byte that it may not have.
+ * On refusal: answer holds number and place; list_area and block_area are unchanged.
+ * Returns: the number. */
+uint32_t commit(uint32_t en, uint32_t em, uint32_t f,
+                const uint8_t *list, size_t list_len,
+                const uint8_t *version, size_t version_len,
+                const uint8_t *store, size_t store_len,
+                const uint8_t *choice, size_t choice_len,
+                uint8_t *list_area, size_t list_area_len,
+                uint8_t *block_area, size_t block_area_len,
+                uint8_t *answer, size_t answer_len);
 
 /* pass - the published linear method, look by look.
  *

@@ -34,9 +34,10 @@ struct shape {
     int differs;
 };
 
-/* One list with its version, store and stored block; a second list of that version, with its stored block; and the areas to write. */
+/* One list with its version, store and stored block; a second list of that version, with its stored block; the least choice, for commit; and the
+ * areas to write. */
 static struct {
-    uint8_t list[RECORDS_MOST * RECORD_BYTES], list_area[RECORDS_MOST * RECORD_BYTES], choice[RECORDS_MOST];
+    uint8_t list[RECORDS_MOST * RECORD_BYTES], list_area[RECORDS_MOST * RECORD_BYTES], choice[RECORDS_MOST], least[RECORDS_MOST];
     uint8_t second[RECORDS_MOST * RECORD_BYTES];
     uint8_t *version, *store, *block, *second_block, *area;
     size_t list_len, version_len, block_len, second_block_len;
@@ -129,6 +130,13 @@ static void set_second(void)
     }
 }
 
+/* The least choice, as the reference has it. */
+static void set_least(void)
+{
+    uint8_t answer[ANSWER_BYTES];
+    ref_estimate(EN, EM, F, in.list, in.list_len, in.version, in.version_len, in.store, VERSION_MOST, in.least, RECORDS_MOST, answer, sizeof answer);
+}
+
 /* The same shape gives the same input each time. */
 static void set_input(const struct shape *shape)
 {
@@ -153,6 +161,7 @@ static void set_input(const struct shape *shape)
     set_second();
     if (shape->differs)
         in.second_block[0] ^= 1;
+    set_least();
 }
 
 static uint8_t *touched(size_t length)
@@ -180,10 +189,10 @@ static void set_up(void)
 
 /* ---- The calls ---- */
 
-enum { MEASURE, CHECK, COMPARE, REBUILD, PARTITION, PASS, CALLS };
+enum { MEASURE, CHECK, COMPARE, REBUILD, PARTITION, ESTIMATE, COMMIT, PASS, CALLS };
 enum side { LIBRARY, REFERENCE, SIDES };
 
-static const char *const call_name[CALLS] = { "measure", "check", "compare", "rebuild", "partition", "pass" };
+static const char *const call_name[CALLS] = { "measure", "check", "compare", "rebuild", "partition", "estimate", "commit", "pass" };
 
 static uint8_t answer[SIDES][ANSWER_BYTES];
 
@@ -209,6 +218,13 @@ static uint32_t make_call(int call, enum side side)
         return (ref ? ref_partition : partition)(EN, EM, F, in.list, in.list_len, in.version, in.version_len, in.store, VERSION_MOST,
                                                  in.choice, RECORDS_MOST, in.list_area, sizeof in.list_area, in.area,
                                                  VERSION_MOST, to, ANSWER_BYTES);
+    case ESTIMATE:
+        return (ref ? ref_estimate : estimate)(EN, EM, F, in.list, in.list_len, in.version, in.version_len, in.store, VERSION_MOST,
+                                               in.choice, RECORDS_MOST, to, ANSWER_BYTES);
+    case COMMIT:
+        return (ref ? ref_commit : commit)(EN, EM, F, in.list, in.list_len, in.version, in.version_len, in.store, VERSION_MOST,
+                                           in.least, in.list_len / RECORD_BYTES, in.list_area, sizeof in.list_area, in.area,
+                                           VERSION_MOST, to, ANSWER_BYTES);
     default:
         return (ref ? ref_pass : pass)(EN, EM, F, in.list, in.list_len, in.version, in.version_len, in.store, VERSION_MOST,
                                        in.choice, RECORDS_MOST, in.list_area, sizeof in.list_area, in.area, VERSION_MOST,
@@ -359,7 +375,8 @@ int main(int count, char **arguments)
     printf("Library and reference in turn, medians of 3 to %d samples; every buffer was written beforehand. EN %d, EM %d, F %d.\n"
            "Records in turns are new, match, new, match, of one size; small ones have 1 to 128 bytes, new or match by chance; of the matches in\n"
            "runs, of 1 to 48 bytes, half go on in the store; where some are held, it is one match of three. The second list of compare gives the\n"
-           "same version, cut at other places: of a match behind a new record, half is stored with that; once its first byte differs.\n\n",
+           "same version, cut at other places: of a match behind a new record, half is stored with that; once its first byte differs. Commit is\n"
+           "handed the least choice.\n\n",
            SAMPLES, EN, EM, F);
     print_all_times();
     print_all_growth();

@@ -3,8 +3,9 @@
  * Lists are written as text: "N5 M19@0" is a new record of 5 bytes and a match of 19 at address 0, "H19@0" such a match held. A record may be as
  * wrong as a case needs it: X is kind 2, N may have an address, "!2" sets byte 2 to 7, and "!2=9" sets it to 9. Every area is longer than what a
  * case lends of it and is filled beforehand, and after the call it is looked at to its last byte: what the call should not write must still hold
- * the filling. The list that partition wrote is handed in again, and must come back. For each size up to 136 one case each of partition, pass and
- * compare lets a match differ at every byte, at every pair of places within a word.
+ * the filling. A choice is written as its bytes, "101", X for 255. What partition gives, estimate and then commit must give too; the list that
+ * partition wrote is handed in again, and must come back. For each size up to 136 one case each of partition, estimate, commit, pass and compare lets
+ * a match differ at every byte, at every pair of places within a word.
  * Exit 0 and one line, with the number of cases, where all is as it should be, else 1 and a line for each case that is not.
  */
 #include <stdio.h>
@@ -13,7 +14,7 @@
 
 #include "controller.h"
 
-#define CASES 919
+#define CASES 1650
 #define FILL 0xA5
 #define AREA 256
 
@@ -89,9 +90,35 @@ static int holds(const uint8_t *bytes, const void *front, size_t n)
     return 1;
 }
 
+/* The choice that commit reads, which is no area to write; and a copy, to see that it stays. */
+static uint8_t handed[AREA], handed_copy[AREA];
+static size_t handed_length;
+
+/* Writes the bytes that a text stands for, and gives their number. */
+static size_t bits_of(const char *text, uint8_t *bits)
+{
+    size_t n = 0;
+    for (; text[n]; n++)
+        bits[n] = text[n] == 'X' ? 255 : (uint8_t)(text[n] - '0');
+    return n;
+}
+
+/* Hands commit a choice; what lies behind it would be a choice too. */
+static void hand(const char *bits)
+{
+    memset(handed, 0, AREA);
+    handed_length = bits_of(bits, handed);
+    memcpy(handed_copy, handed, AREA);
+}
+
+static int handed_stays(void)
+{
+    return memcmp(handed, handed_copy, AREA) == 0;
+}
+
 static int untouched(void)
 {
-    return holds(area, "", 0) && holds(choice, "", 0) && holds(list_area, "", 0) && holds(block_area, "", 0);
+    return holds(area, "", 0) && holds(choice, "", 0) && holds(list_area, "", 0) && holds(block_area, "", 0) && handed_stays();
 }
 
 struct values {
@@ -470,16 +497,36 @@ static void test_compare(void)
     expect("compare", "an answer area of 31 bytes", not_made(compare(list, 11, second, 24, list, 0, list, 0, list, 0, answer, ANSWER_BYTES - 1)));
 }
 
-/* ---- Partition and pass: accepted ---- */
+/* ---- Partition, estimate, commit and pass: accepted ---- */
 
 typedef uint32_t call(uint32_t en, uint32_t em, uint32_t f, const uint8_t *list, size_t list_len, const uint8_t *version,
                       size_t version_len, const uint8_t *store, size_t store_len, uint8_t *choice, size_t choice_len, uint8_t *list_area, size_t list_area_len,
                       uint8_t *block_area, size_t block_area_len, uint8_t *answer, size_t answer_len);
 
+/* Estimate and commit with the arguments of partition. What they are not lent must stay: the areas for list and stored block, and that for the
+ * choice, in whose place commit reads the one that is handed to it. */
+static uint32_t estimated(uint32_t en, uint32_t em, uint32_t f, const uint8_t *from, size_t from_len, const uint8_t *version, size_t version_len,
+                          const uint8_t *store, size_t store_len, uint8_t *bits, size_t bits_len, uint8_t *out, size_t out_len, uint8_t *block,
+                          size_t block_len, uint8_t *result, size_t result_len)
+{
+    (void)out, (void)out_len, (void)block, (void)block_len;
+    return estimate(en, em, f, from, from_len, version, version_len, store, store_len, bits, bits_len, result, result_len);
+}
+
+static uint32_t committed(uint32_t en, uint32_t em, uint32_t f, const uint8_t *from, size_t from_len, const uint8_t *version, size_t version_len,
+                          const uint8_t *store, size_t store_len, uint8_t *bits, size_t bits_len, uint8_t *out, size_t out_len, uint8_t *block,
+                          size_t block_len, uint8_t *result, size_t result_len)
+{
+    (void)bits, (void)bits_len;
+    return commit(en, em, f, from, from_len, version, version_len, store, store_len, handed, handed_length, out, out_len, block, block_len, result,
+                  result_len);
+}
+
 /* The letters A to Z and a to n. In the sheets new bytes are digits, and no match goes on in the store where the one before it ended. */
 #define STORE "ABCDEFGHIJKLMNOPQRSTUVWXYZabcdefghijklmn"
 #define SHEET_C "N5 M19@0 N5"
 #define VERSION_C "01234ABCDEFGHIJKLMNOPQRS56789"
+#define VERSION_E "01234UVWXYZabcdefghijklmABCDEFGHIJKLMNOPQRS56789"
 
 /* The price, and how many bytes of the areas for choice, list and stored block are lent. */
 struct terms {
@@ -504,14 +551,16 @@ struct accepted {
     struct values want;
 };
 
+/* Whether a call gives what is wanted, and writes it: estimate no list and no stored block, commit no choice, as it is handed the one that the
+ * others write. */
 static int gives(call *made, const struct accepted *a, const char *store)
 {
     uint8_t bits[AREA], written[AREA];
-    size_t n = list_of(a->list, list), m = list_of(a->written, written), k = strlen(a->bits);
-    for (size_t i = 0; i < k; i++)
-        bits[i] = (uint8_t)(a->bits[i] - '0');
-    return answered(called(made, a->terms, n, a->version, store), a->want) && holds(choice, bits, k) && holds(list_area, written, m)
-        && holds(block_area, a->stored, strlen(a->stored)) && holds(area, "", 0);
+    size_t n = list_of(a->list, list), m = list_of(a->written, written), k = bits_of(a->bits, bits);
+    hand(a->bits);
+    return answered(called(made, a->terms, n, a->version, store), a->want) && holds(choice, bits, made == committed ? 0 : k)
+        && holds(list_area, written, made == estimated ? 0 : m) && holds(block_area, a->stored, made == estimated ? 0 : strlen(a->stored))
+        && holds(area, "", 0) && handed_stays();
 }
 
 /* The sheets, at F = 256 and every entry of 10 disk bytes, where partition and pass take the same choice; the looks are the pass's. */
@@ -521,7 +570,7 @@ static const struct accepted sheets[] = {
     { "sheet C", AT(10, 256), SHEET_C, VERSION_C, "111", "N29", VERSION_C, { .cost = 256 * 39, .entries = 1, .stored = 29, .looks = 2 } },
     { "sheet D", AT(10, 256), "N5 M20@0 N5", "01234ABCDEFGHIJKLMNOPQRST56789", "101", "N5 M20@0 N5", "0123456789",
       { .cost = 256 * 40, .entries = 3, .stored = 10, .looks = 3 } },
-    { "sheet E", AT(10, 256), "N5 M19@20 M19@0 N5", "01234UVWXYZabcdefghijklmABCDEFGHIJKLMNOPQRS56789", "1001", "N5 M19@20 M19@0 N5", "0123456789",
+    { "sheet E", AT(10, 256), "N5 M19@20 M19@0 N5", VERSION_E, "1001", "N5 M19@20 M19@0 N5", "0123456789",
       { .cost = 256 * 50, .entries = 4, .stored = 10, .looks = 4 } },
     { "sheet F", AT(10, 256), "N1 M9@0", "0ABCDEFGHI", "11", "N10", "0ABCDEFGHI", { .cost = 256 * 20, .entries = 1, .stored = 10, .looks = 2 } },
     { "sheet G", AT(10, 256), "N1 M10@0", "0ABCDEFGHIJ", "10", "N1 M10@0", "0", { .cost = 256 * 21, .entries = 2, .stored = 1, .looks = 2 } },
@@ -680,12 +729,105 @@ static const struct apart {
         { .cost = 256 * 30, .entries = 3, .looks = 3 } } },
 };
 
-/* Partition; then the list that it wrote, which comes back with its marks, and with 0 for each match and 1 for each new record. */
+/* Choices that are not the least, or not the first of those that cost least, at 10 disk bytes for an entry but where a price is said. Sheet C kept is
+ * 30 + 10, sheet D stored 10 + 30, a tie; of sheet E all stored is 10 + 48, one match stored 30 + 29; of sheet H the middle stored is 30 + 4, both
+ * ends 30 + 8; of sheet J all stored 10 + 18, a tie, its first alone 30 + 10, its first and last 30 + 14. Three matches that go on in the store join
+ * where neighbours are kept: 30 + 4 with the middle stored, 20 + 4 with an end, 20 + 8 with two neighbours, 30 + 8 with both ends, 10 + 12 with all.
+ * A run that a new record cuts is 20 + 25 with one half stored, one of which the other half is held 30 + 24. At EN 1, EM 10 a lone match stored with
+ * both beside it is 1 + 44, and both without it are 2 + 10 + 40. */
+static const struct accepted commits[] = {
+    { "sheet C, its match kept", AT(10, 256), SHEET_C, VERSION_C, "101", SHEET_C, "0123456789", { .cost = 256 * 40, .entries = 3, .stored = 10 } },
+    { "sheet C, its match kept, in areas just long enough", IN(0, 36, 29), SHEET_C, VERSION_C, "101", SHEET_C, "0123456789",
+      { .cost = 256 * 40, .entries = 3, .stored = 10 } },
+    { "sheet C, its match kept, at the greatest price", AT(255, 65535), SHEET_C, VERSION_C, "101", SHEET_C, "0123456789",
+      { .cost = 3 * 16711425 + 256 * 10, .entries = 3, .stored = 10 } },
+    { "sheet C stored at EN and EM 1, F 1", AT(1, 1), SHEET_C, VERSION_C, "111", "N29", VERSION_C, { .cost = 1 + 256 * 29, .entries = 1, .stored = 29 } },
+    { "sheet C stored at EN 10, EM 1", PRICED(10, 1, 256), SHEET_C, VERSION_C, "111", "N29", VERSION_C,
+      { .cost = 256 * 39, .entries = 1, .stored = 29 } },
+    { "sheet C, its match kept, at EN 255, EM 1, F 65535", PRICED(255, 1, 65535), SHEET_C, VERSION_C, "101", SHEET_C, "0123456789",
+      { .cost = 2 * 16711425 + 65535 + 256 * 10, .entries = 3, .stored = 10 } },
+    { "sheet C, its match kept, at EN 1, EM 255, F 65535", PRICED(1, 255, 65535), SHEET_C, VERSION_C, "101", SHEET_C, "0123456789",
+      { .cost = 2 * 65535 + 16711425 + 256 * 10, .entries = 3, .stored = 10 } },
+    { "sheet D stored, a tie", AT(10, 256), "N5 M20@0 N5", "01234ABCDEFGHIJKLMNOPQRST56789", "111", "N30", "01234ABCDEFGHIJKLMNOPQRST56789",
+      { .cost = 256 * 40, .entries = 1, .stored = 30 } },
+    { "sheet E stored", AT(10, 256), "N5 M19@20 M19@0 N5", VERSION_E, "1111", "N48", VERSION_E, { .cost = 256 * 58, .entries = 1, .stored = 48 } },
+    { "sheet E, its first match stored", AT(10, 256), "N5 M19@20 M19@0 N5", VERSION_E, "1101", "N24 M19@0 N5", "01234UVWXYZabcdefghijklm56789",
+      { .cost = 256 * 59, .entries = 3, .stored = 29 } },
+    { "sheet E, its second match stored", AT(10, 256), "N5 M19@20 M19@0 N5", VERSION_E, "1011", "N5 M19@20 N24", "01234ABCDEFGHIJKLMNOPQRS56789",
+      { .cost = 256 * 59, .entries = 3, .stored = 29 } },
+    { "sheet H, its middle stored", AT(10, 256), "M4@8 M4@4 M4@0", "IJKLEFGHABCD", "010", "M4@8 N4 M4@0", "EFGH",
+      { .cost = 256 * 34, .entries = 3, .stored = 4 } },
+    { "sheet H, its ends stored", AT(10, 256), "M4@8 M4@4 M4@0", "IJKLEFGHABCD", "101", "N4 M4@4 N4", "IJKLABCD",
+      { .cost = 256 * 38, .entries = 3, .stored = 8 } },
+    { "sheet J stored, a tie", AT(10, 256), "M10@8 M4@4 M4@0", "IJKLMNOPQREFGHABCD", "111", "N18", "IJKLMNOPQREFGHABCD",
+      { .cost = 256 * 28, .entries = 1, .stored = 18 } },
+    { "sheet J, its first stored", AT(10, 256), "M10@8 M4@4 M4@0", "IJKLMNOPQREFGHABCD", "100", "N10 M4@4 M4@0", "IJKLMNOPQR",
+      { .cost = 256 * 40, .entries = 3, .stored = 10 } },
+    { "sheet J, its ends stored", AT(10, 256), "M10@8 M4@4 M4@0", "IJKLMNOPQREFGHABCD", "101", "N10 M4@4 N4", "IJKLMNOPQRABCD",
+      { .cost = 256 * 44, .entries = 3, .stored = 14 } },
+    { "F 1, stored", AT(1, 1), "N1 M1@0", "0A", "11", "N2", "0A", { .cost = 513, .entries = 1, .stored = 2 } },
+    { "F 255, stored", AT(1, 255), "N1 M1@0", "0A", "11", "N2", "0A", { .cost = 767, .entries = 1, .stored = 2 } },
+    { "F 256, stored, a tie", AT(1, 256), "N1 M1@0", "0A", "11", "N2", "0A", { .cost = 768, .entries = 1, .stored = 2 } },
+    { "F 257, kept", AT(1, 257), "N1 M1@0", "0A", "10", "N1 M1@0", "0", { .cost = 770, .entries = 2, .stored = 1 } },
+    { "one match stored", AT(10, 256), "M1@0", "A", "1", "N1", "A", { .cost = 256 * 11, .entries = 1, .stored = 1 } },
+    { "one new record", AT(10, 256), "N4", "0123", "1", "N4", "0123", { .cost = 256 * 14, .entries = 1, .stored = 4 } },
+    { "a lone match, and both beside it, at EN 1, EM 10", PRICED(1, 10, 256), LONE, VERSION_LONE, "111", "N44", VERSION_LONE,
+      { .cost = 256 * 45, .entries = 1, .stored = 44 } },
+    { "both beside a lone match at EN 1, EM 10", PRICED(1, 10, 256), LONE, VERSION_LONE, "101", "N20 M4@8 N20",
+      "UVWXYZabcdefghijklmnABCDEFGHIJKLMNOPQRST", { .cost = 256 * 52, .entries = 3, .stored = 40 } },
+    { "a run, its middle stored", AT(10, 256), "M4@8 M4@12 M4@16", "IJKLMNOPQRST", "010", "M4@8 N4 M4@16", "MNOP",
+      { .cost = 256 * 34, .entries = 3, .stored = 4 } },
+    { "a run, its first stored", AT(10, 256), "M4@8 M4@12 M4@16", "IJKLMNOPQRST", "100", "N4 M8@12", "IJKL",
+      { .cost = 256 * 24, .entries = 2, .stored = 4 } },
+    { "a run, its last stored", AT(10, 256), "M4@8 M4@12 M4@16", "IJKLMNOPQRST", "001", "M8@8 N4", "QRST",
+      { .cost = 256 * 24, .entries = 2, .stored = 4 } },
+    { "a run, its first two stored", AT(10, 256), "M4@8 M4@12 M4@16", "IJKLMNOPQRST", "110", "N8 M4@16", "IJKLMNOP",
+      { .cost = 256 * 28, .entries = 2, .stored = 8 } },
+    { "a run, its last two stored", AT(10, 256), "M4@8 M4@12 M4@16", "IJKLMNOPQRST", "011", "M4@8 N8", "MNOPQRST",
+      { .cost = 256 * 28, .entries = 2, .stored = 8 } },
+    { "a run, its ends stored", AT(10, 256), "M4@8 M4@12 M4@16", "IJKLMNOPQRST", "101", "N4 M4@12 N4", "IJKLQRST",
+      { .cost = 256 * 38, .entries = 3, .stored = 8 } },
+    { "a run stored, one kept being cheaper", AT(10, 256), "M4@8 M4@12 M4@16", "IJKLMNOPQRST", "111", "N12", "IJKLMNOPQRST",
+      { .cost = 256 * 22, .entries = 1, .stored = 12 } },
+    { "a run cut by a new record, its first half stored", AT(10, 256), "M20@0 N5 M20@20", "ABCDEFGHIJKLMNOPQRST01234UVWXYZabcdefghijklmn", "110",
+      "N25 M20@20", "ABCDEFGHIJKLMNOPQRST01234", { .cost = 256 * 45, .entries = 2, .stored = 25 } },
+    { "a run cut by a new record, its second half stored", AT(10, 256), "M20@0 N5 M20@20", "ABCDEFGHIJKLMNOPQRST01234UVWXYZabcdefghijklmn", "011",
+      "M20@0 N25", "01234UVWXYZabcdefghijklmn", { .cost = 256 * 45, .entries = 2, .stored = 25 } },
+    { "a run, its first half stored, its second held", AT(10, 256), "N5 M14@0 H14@14 N5", VERSION_RUN, "1101", "N19 H14@14 N5",
+      "01234ABCDEFGHIJKLMN56789", { .cost = 256 * 54, .entries = 3, .stored = 24 } },
+    { "a run, its second half stored, its first held", AT(10, 256), "N5 H14@0 M14@14 N5", VERSION_RUN, "1011", "N5 H14@0 N19",
+      "01234OPQRSTUVWXYZab56789", { .cost = 256 * 54, .entries = 3, .stored = 24 } },
+    { "a held run, its end stored", AT(10, 256), "H4@8 H4@12 M4@16", "IJKLMNOPQRST", "001", "H8@8 N4", "QRST",
+      { .cost = 256 * 24, .entries = 2, .stored = 4 } },
+};
+
+/* Eight records: two runs, a held one and one that is not, and a match that goes on from the held one without its mark. Kept, 60 + 3 for six entries;
+ * with each second match stored, from the first one on or from the second, 60 + 11; with all but the held ones stored, 30 + 19. At the greatest price
+ * the entries cost 16,711,425 each. */
+#define LIST_8 "N2 M4@0 M4@4 H4@8 H4@12 M4@16 M4@30 N1"
+#define VERSION_8 "01ABCDEFGHIJKLMNOPQRSTefgh2"
+static const struct accepted commits_of_8[] = {
+    { "eight records, all matches kept", AT(10, 256), LIST_8, VERSION_8, "10000001", "N2 M8@0 H8@8 M4@16 M4@30 N1", "012",
+      { .cost = 256 * 63, .entries = 6, .stored = 3 } },
+    { "eight records, all matches kept at the greatest price", AT(255, 65535), LIST_8, VERSION_8, "10000001", "N2 M8@0 H8@8 M4@16 M4@30 N1", "012",
+      { .cost = 6 * 16711425 + 256 * 3, .entries = 6, .stored = 3 } },
+    { "eight records, the first and each second match stored", AT(10, 256), LIST_8, VERSION_8, "11000101", "N6 M4@4 H8@8 N4 M4@30 N1", "01ABCDQRST2",
+      { .cost = 256 * 71, .entries = 6, .stored = 11 } },
+    { "eight records, the second and each second match stored", AT(10, 256), LIST_8, VERSION_8, "10100011", "N2 M4@0 N4 H8@8 M4@16 N5", "01EFGHefgh2",
+      { .cost = 256 * 71, .entries = 6, .stored = 11 } },
+    { "eight records, all stored but the held ones", AT(10, 256), LIST_8, VERSION_8, "11100111", "N10 H8@8 N9", "01ABCDEFGHQRSTefgh2",
+      { .cost = 256 * 49, .entries = 3, .stored = 19 } },
+};
+
+/* Partition; estimate, and commit of the choice that it must have written; then the list that partition wrote, which comes back with its marks, and
+ * with 0 for each match and 1 for each new record. */
 static void give_twice(struct accepted a, const char *store)
 {
     char what[80], bits[AREA] = "";
     uint8_t written[AREA];
     expect("partition", a.what, gives(partition, &a, store));
+    expect("estimate", a.what, gives(estimated, &a, store));
+    expect("commit", a.what, gives(committed, &a, store));
     for (size_t i = list_of(a.written, written) / RECORD_BYTES; i > 0; i--)
         bits[i - 1] = written[RECORD_BYTES * (i - 1)] == KIND_NEW ? '1' : '0';
     snprintf(what, sizeof what, "%s, handed in again", a.what);
@@ -715,12 +857,19 @@ static void test_accepted(void)
     for (size_t i = 0; i < sizeof held / sizeof *held; i++)
         give_both(held[i], STORE);
     for (size_t i = 0; i < sizeof apart / sizeof *apart; i++) {
+        struct accepted passed = apart[i].passed;
         give_twice(apart[i].least, STORE);
-        expect("pass", apart[i].passed.what, gives(pass, &apart[i].passed, STORE));
+        expect("pass", passed.what, gives(pass, &passed, STORE));
+        passed.want.looks = 0;
+        expect("commit", passed.what, gives(committed, &passed, STORE));
     }
+    for (size_t i = 0; i < sizeof commits / sizeof *commits; i++)
+        expect("commit", commits[i].what, gives(committed, &commits[i], STORE));
+    for (size_t i = 0; i < sizeof commits_of_8 / sizeof *commits_of_8; i++)
+        expect("commit", commits_of_8[i].what, gives(committed, &commits_of_8[i], STORE));
 }
 
-/* ---- Partition and pass: refused, both with the same number and place ---- */
+/* ---- Partition, estimate, commit and pass: refused, all with the same number and place ---- */
 
 static const struct {
     const char *what;
@@ -734,9 +883,6 @@ static const struct {
     { "EM 256", PRICED(10, 256, 256), SHEET_C, VERSION_C, STORE, 1, 0 },
     { "F 0", AT(10, 0), SHEET_C, VERSION_C, STORE, 1, 0 },
     { "F 65536", AT(10, 65536), SHEET_C, VERSION_C, STORE, 1, 0 },
-    { "a choice area one byte short", IN(2, AREA, AREA), SHEET_C, VERSION_C, STORE, 9, 0 },
-    { "a list area one byte short", IN(AREA, 35, AREA), SHEET_C, VERSION_C, STORE, 9, 0 },
-    { "a block area one byte short", IN(AREA, AREA, 28), SHEET_C, VERSION_C, STORE, 9, 0 },
     { "kind 2", AT(10, 256), "X5 M19@0 N5", VERSION_C, STORE, 4, 0 },
     { "byte 2", AT(10, 256), "N5 M19@0!2 N5", VERSION_C, STORE, 4, 1 },
     { "a mark on a new record", AT(10, 256), "N5 M19@0 N5!1=1", VERSION_C, STORE, 4, 2 },
@@ -764,10 +910,6 @@ static const struct {
     { "a match whose last byte differs", AT(10, 256), SHEET_C, VERSION_C, "ABCDEFGHIJKLMNOPQR-", 8, 1 },
     { "a held match whose last byte differs", AT(10, 256), "N5 H19@0 N5", VERSION_C, "ABCDEFGHIJKLMNOPQR-", 8, 1 },
     { "a second match that differs", AT(10, 256), "N5 M9@0 M10@10 N5", VERSION_C, STORE, 8, 2 },
-    { "1 before 9", { 0, 10, 256, 2, AREA, AREA }, SHEET_C, VERSION_C, STORE, 1, 0 },
-    { "9 before 4", IN(2, AREA, AREA), "X5 M19@0 N5", VERSION_C, STORE, 9, 0 },
-    { "9 before 4 for a mark", IN(2, AREA, AREA), "N5!1=1 M19@0 N5", VERSION_C, STORE, 9, 0 },
-    { "9 before the short end", IN(2, AREA, AREA), "N5 M1@0 N1", VERSION_C, STORE, 9, 0 },
     { "4 before 5", AT(10, 256), "N5 N0 N5", VERSION_C, STORE, 4, 1 },
     { "4 for a mark before 5", AT(10, 256), "N5 N19!1=1 N5", VERSION_C, STORE, 4, 1 },
     { "5 before 6", AT(10, 256), "N5 N99 N5", VERSION_C, STORE, 5, 1 },
@@ -777,24 +919,182 @@ static const struct {
     { "8 before the short end", AT(10, 256), "N5 M19@1 N1", VERSION_C, STORE, 8, 1 },
 };
 
+/* One area a byte short for three records and VERSION_C. */
+enum { FOR_CHOICE, FOR_LIST, FOR_BLOCK };
+
+static const struct {
+    const char *what;
+    size_t choice, list, block;
+} short_areas[] = {
+    { "a choice area one byte short", 2, AREA, AREA },
+    { "a list area one byte short", AREA, 35, AREA },
+    { "a block area one byte short", AREA, AREA, 28 },
+};
+
+/* What may be at fault besides. */
+static const struct {
+    const char *what;
+    uint32_t en;
+    const char *list;
+    uint32_t number;
+} besides[] = {
+    { "", 10, SHEET_C, 9 },
+    { ", 9 before 4", 10, "X5 M19@0 N5", 9 },
+    { ", 9 before 4 for a mark", 10, "N5!1=1 M19@0 N5", 9 },
+    { ", 9 before 8", 10, "N5 M19@1 N5", 9 },
+    { ", 9 before the short end", 10, "N5 M1@0 N1", 9 },
+    { ", 1 before 9", 0, SHEET_C, 1 },
+};
+
+/* The areas that a call needs, from the first of them to the last; commit is handed a choice of sheet C, of which the list, or the stored block, would
+ * be much shorter than the area. */
+static void test_short_areas(call *made, const char *name, int first, int last, const char *bits)
+{
+    char what[80];
+    hand(bits);
+    for (int area_short = first; area_short <= last; area_short++)
+        for (size_t i = 0; i < sizeof besides / sizeof *besides; i++) {
+            struct terms terms = { besides[i].en, 10, 256, short_areas[area_short].choice, short_areas[area_short].list, short_areas[area_short].block };
+            size_t n = list_of(besides[i].list, list);
+            snprintf(what, sizeof what, "%s%s", short_areas[area_short].what, besides[i].what);
+            expect(name, what, refused(called(made, terms, n, VERSION_C, STORE), besides[i].number, 0));
+        }
+}
+
+/* Commit is handed no choice of any of the lists: its length or its first byte is wrong, and comes last. */
 static void test_refused(call *made, const char *name)
 {
+    hand("X");
     for (size_t i = 0; i < sizeof refusals / sizeof *refusals; i++) {
         size_t n = list_of(refusals[i].list, list);
         expect(name, refusals[i].what, refused(called(made, refusals[i].terms, n, refusals[i].version, refusals[i].store), refusals[i].number,
             refusals[i].place));
     }
-    struct terms usual = AT(10, 256), no_factor = AT(10, 0), short_choice = IN(0, AREA, AREA);
+    struct terms usual = AT(10, 256), no_factor = AT(10, 0), no_areas = IN(0, 0, 0);
     list_of(SHEET_C, list);
     expect(name, "11 bytes", refused(called(made, usual, 11, "", STORE), 3, 0));
     expect(name, "1 before 3", refused(called(made, no_factor, 11, "", STORE), 1, 0));
-    expect(name, "3 before 9", refused(called(made, short_choice, 35, VERSION_C, STORE), 3, 0));
+    expect(name, "3 before 9", refused(called(made, no_areas, 35, VERSION_C, STORE), 3, 0));
     fill_areas();
     expect(name, "an answer area of 31 bytes", not_made(made(10, 10, 256, list, 36, (const uint8_t *)VERSION_C, 29, (const uint8_t *)STORE, 40, choice, AREA,
         list_area, AREA, block_area, AREA, answer, ANSWER_BYTES - 1)));
 }
 
-/* ---- Partition, pass and compare: one byte that differs, at each position ---- */
+/* ---- Commit: no choice of the list ---- */
+
+/* In the first list the first and the last record are new, in the second both are held. A choice of the first is 1?0?01, of the second 0?1?0. */
+#define LIST_6 "N2 M3@0 H4@10 M5@20 H2@30 N3"
+#define VERSION_6 "01ABCKLMNUVWXYef234"
+#define LIST_OF_HELD "H4@10 M3@0 N2 M5@20 H2@30"
+#define VERSION_OF_HELD "KLMNABC01UVWXYef"
+
+static const struct {
+    const char *what, *list, *version, *bits;
+    uint32_t place;
+} no_choices[] = {
+    { "a choice of no bytes", LIST_6, VERSION_6, "", 0 },
+    { "a choice of one byte", LIST_6, VERSION_6, "1", 0 },
+    { "a choice one byte short", LIST_6, VERSION_6, "10000", 0 },
+    { "a choice one byte longer", LIST_6, VERSION_6, "1000010", 0 },
+    { "a choice one byte longer, which is 1", LIST_6, VERSION_6, "1000011", 0 },
+    { "a choice one byte longer, which is no bit", LIST_6, VERSION_6, "1000012", 0 },
+    { "a choice twice as long", LIST_6, VERSION_6, "100001100001", 0 },
+    { "a choice as long as the list in bytes", "N4", "0123", "111111111111", 0 },
+    { "a byte for no records", "", "", "0", 0 },
+    { "a byte of 1 for no records", "", "", "1", 0 },
+    { "no byte for one record", "N4", "0123", "", 0 },
+    { "the length before a byte of 2", LIST_6, VERSION_6, "12000", 0 },
+    { "the length before a byte of 255", LIST_6, VERSION_6, "100X010", 0 },
+    { "the length before a 0 for a new record", LIST_6, VERSION_6, "1000000", 0 },
+    { "the length before a 1 for a held match", LIST_6, VERSION_6, "10101", 0 },
+    { "2 for the first record, which is new", LIST_6, VERSION_6, "200001", 0 },
+    { "3 for the first record, which is new", LIST_6, VERSION_6, "300001", 0 },
+    { "255 for the first record, which is new", LIST_6, VERSION_6, "X00001", 0 },
+    { "0 for the first record, which is new", LIST_6, VERSION_6, "000001", 0 },
+    { "1 for the first record, which is held", LIST_OF_HELD, VERSION_OF_HELD, "10100", 0 },
+    { "2 for the first record, which is held", LIST_OF_HELD, VERSION_OF_HELD, "20100", 0 },
+    { "255 for the first record, which is held", LIST_OF_HELD, VERSION_OF_HELD, "X0100", 0 },
+    { "2 for a match", LIST_6, VERSION_6, "120001", 1 },
+    { "3 for a match", LIST_6, VERSION_6, "130001", 1 },
+    { "255 for a match", LIST_6, VERSION_6, "1X0001", 1 },
+    { "2 for a later match", LIST_6, VERSION_6, "100201", 3 },
+    { "255 for a later match", LIST_6, VERSION_6, "110X01", 3 },
+    { "1 for a held match", LIST_6, VERSION_6, "101001", 2 },
+    { "1 for a later held match", LIST_6, VERSION_6, "100011", 4 },
+    { "2 for a held match", LIST_6, VERSION_6, "102001", 2 },
+    { "255 for a held match", LIST_6, VERSION_6, "1000X1", 4 },
+    { "0 for a new record", LIST_OF_HELD, VERSION_OF_HELD, "00000", 2 },
+    { "2 for a new record", LIST_OF_HELD, VERSION_OF_HELD, "00200", 2 },
+    { "255 for a new record", LIST_OF_HELD, VERSION_OF_HELD, "01X00", 2 },
+    { "0 for the last record, which is new", LIST_6, VERSION_6, "100000", 5 },
+    { "2 for the last record, which is new", LIST_6, VERSION_6, "100002", 5 },
+    { "255 for the last record, which is new", LIST_6, VERSION_6, "10000X", 5 },
+    { "1 for the last record, which is held", LIST_OF_HELD, VERSION_OF_HELD, "00101", 4 },
+    { "2 for the last record, which is held", LIST_OF_HELD, VERSION_OF_HELD, "00102", 4 },
+    { "255 for the last record, which is held", LIST_OF_HELD, VERSION_OF_HELD, "0110X", 4 },
+    { "2 for the last record, a match", "N2 M3@0", "01ABC", "12", 1 },
+    { "255 for the first record, a match", "M3@0 N2", "ABC01", "X1", 0 },
+    { "2 at 1 before 255 at 3", LIST_6, VERSION_6, "120X01", 1 },
+    { "0 at 0 for a new record before 2 at 1", LIST_6, VERSION_6, "020001", 0 },
+    { "2 at 1 before 0 at 5 for a new record", LIST_6, VERSION_6, "120000", 1 },
+    { "1 at 2 for a held match before 2 at 5", LIST_6, VERSION_6, "101002", 2 },
+    { "2 at 1 before 1 at 2 for a held match", LIST_6, VERSION_6, "121001", 1 },
+    { "1 at 4 for a held match before 0 at 5 for a new record", LIST_6, VERSION_6, "100010", 4 },
+    { "0 at 2 for a new record before 1 at 4 for a held match", LIST_OF_HELD, VERSION_OF_HELD, "00001", 2 },
+    { "1 at 0 for a held match before 0 at 2 for a new record", LIST_OF_HELD, VERSION_OF_HELD, "10000", 0 },
+    { "1 at 2 for a held match before 1 at 4 for another", LIST_6, VERSION_6, "101011", 2 },
+    { "0 at 0 for a new record before 0 at 5 for another", LIST_6, VERSION_6, "000000", 0 },
+    { "1 for the second of a held run", LIST_8, VERSION_8, "10001001", 4 },
+    { "all stored, held ones too", LIST_8, VERSION_8, "11111111", 3 },
+};
+
+/* 12 comes last: of a choice that is wrong at its first byte, or too short, or too long, nothing is said where something else is at fault. */
+static const struct {
+    const char *what;
+    struct terms terms;
+    const char *list, *version;
+    uint32_t number, place;
+} before_choice[] = {
+    { "1 before 12", PRICED(10, 0, 256), LIST_6, VERSION_6, 1, 0 },
+    { "9 by the list area before 12", IN(AREA, 71, AREA), LIST_6, VERSION_6, 9, 0 },
+    { "9 by the block area before 12", IN(AREA, AREA, 18), LIST_6, VERSION_6, 9, 0 },
+    { "4 at 5 before 12", AT(10, 256), "N2 M3@0 H4@10 M5@20 H2@30 X3", VERSION_6, 4, 5 },
+    { "4 at 5 for a mark before 12", AT(10, 256), "N2 M3@0 H4@10 M5@20 H2@30 N3!1=1", VERSION_6, 4, 5 },
+    { "5 at 1 before 12", AT(10, 256), "N2 N3 H4@10 M5@20 H2@30 N3", VERSION_6, 5, 1 },
+    { "6 at 5 before 12", AT(10, 256), "N2 M3@0 H4@10 M5@20 H2@30 N4", VERSION_6, 6, 5 },
+    { "7 at 4 before 12", AT(10, 256), "N2 M3@0 H4@10 M5@20 H2@39 N3", VERSION_6, 7, 4 },
+    { "8 at 3 before 12", AT(10, 256), "N2 M3@0 H4@10 M5@21 H2@30 N3", VERSION_6, 8, 3 },
+    { "8 at 4 for a held match before 12", AT(10, 256), "N2 M3@0 H4@10 M5@20 H2@31 N3", VERSION_6, 8, 4 },
+    { "the short end before 12", AT(10, 256), "N2 M3@0 H4@10 M5@20 H2@30 N2", VERSION_6, 6, 6 },
+    { "the short end by a byte of the version before 12", AT(10, 256), LIST_6, VERSION_6 "5", 6, 6 },
+};
+
+/* Of each: the first byte wrong in two ways; one byte short, with and without a wrong one; one longer. */
+static const char *const wrong_choices[] = { "000001", "200001", "10000", "00000", "1000011" };
+
+static void test_no_choice(void)
+{
+    const struct terms usual = AT(10, 256), just_enough = IN(0, 72, 19);
+    char what[80];
+    for (size_t i = 0; i < sizeof no_choices / sizeof *no_choices; i++) {
+        size_t n = list_of(no_choices[i].list, list);
+        hand(no_choices[i].bits);
+        expect("commit", no_choices[i].what, refused(called(committed, usual, n, no_choices[i].version, STORE), 12, no_choices[i].place));
+    }
+    for (size_t i = 0; i < sizeof before_choice / sizeof *before_choice; i++)
+        for (size_t k = 0; k < sizeof wrong_choices / sizeof *wrong_choices; k++) {
+            size_t n = list_of(before_choice[i].list, list);
+            hand(wrong_choices[k]);
+            snprintf(what, sizeof what, "%s, choice %s", before_choice[i].what, wrong_choices[k]);
+            expect("commit", what, refused(called(committed, before_choice[i].terms, n, before_choice[i].version, STORE), before_choice[i].number,
+                before_choice[i].place));
+        }
+    size_t n = list_of(LIST_6, list);
+    hand("100011");
+    expect("commit", "12 in areas just long enough", refused(called(committed, just_enough, n, VERSION_6, STORE), 12, 4));
+}
+
+/* ---- Partition, estimate, commit, pass and compare: one byte that differs, at each position ---- */
 
 enum { LONGEST = 136, WORD = 8 };
 
@@ -823,19 +1123,22 @@ static size_t set_stretch(struct stretch t)
     return RECORD_BYTES * n;
 }
 
-/* 8 at the match's place; else the list comes back, as no match is worth storing at a 256th for an entry. */
+/* 8 at the match's place; else the list comes back, as no match is worth storing at a 256th for an entry, and as commit is handed the choice that
+ * keeps it. */
 static int finds(call *made, struct stretch t)
 {
     const size_t n = set_stretch(t);
     const uint32_t records = (uint32_t)n / RECORD_BYTES;
     const uint8_t bits[2] = { t.offset > 0, 0 };
+    hand(t.offset == 0 ? (t.size == 0 ? "" : "0") : t.size == 0 ? "1" : "10");
     fill_areas();
     const uint32_t number = made(1, 1, 1, list, n, version_bytes, t.offset + t.size, store_bytes, sizeof store_bytes, choice, AREA, list_area, AREA,
                                  block_area, AREA, answer, sizeof answer);
     if (t.differs < t.size)
         return refused(number, 8, t.offset > 0);
     return answered(number, (struct values){ .cost = records + 256 * t.offset, .entries = records, .stored = t.offset, .looks = made == pass ? records : 0 })
-        && holds(choice, bits, records) && holds(list_area, list, n) && holds(block_area, version_bytes, t.offset) && holds(area, "", 0);
+        && holds(choice, bits, made == committed ? 0 : records) && holds(list_area, list, made == estimated ? 0 : n)
+        && holds(block_area, version_bytes, made == estimated ? 0 : t.offset) && holds(area, "", 0) && handed_stays();
 }
 
 /* The second list stores the version in one new record. */
@@ -854,16 +1157,20 @@ static void test_stretches(void)
 {
     char what[80];
     for (uint32_t size = 0; size <= LONGEST; size++) {
-        int by_partition = 1, by_pass = 1, by_compare = 1;
+        int by_partition = 1, by_estimate = 1, by_commit = 1, by_pass = 1, by_compare = 1;
         for (uint32_t place = 0; place < WORD * WORD; place++)
             for (uint32_t differs = 0; differs <= size; differs++) {
                 const struct stretch t = { size, place / WORD, place % WORD, differs };
                 by_partition &= finds(partition, t);
+                by_estimate &= finds(estimated, t);
+                by_commit &= finds(committed, t);
                 by_pass &= finds(pass, t);
                 by_compare &= tells(t);
             }
         snprintf(what, sizeof what, "a byte that differs in a match of %u", (unsigned)size);
         expect("partition", what, by_partition);
+        expect("estimate", what, by_estimate);
+        expect("commit", what, by_commit);
         expect("pass", what, by_pass);
         expect("compare", what, by_compare);
     }
@@ -1003,6 +1310,170 @@ static void test_greatest_lists(void)
     free(most), free(out), free(bits), free(zeros), free(bytes), free(stored);
 }
 
+/* 4,096 records that cover 16,777,216 bytes of 0; the choice, which commit reads and estimate writes, with a byte behind it; the areas, and the list
+ * that should be written. */
+static struct {
+    uint8_t *list, *bits, *bytes, *out, *stored, *wanted;
+} great;
+
+enum { LENGTH = RECORDS_MOST * RECORD_BYTES, PART = VERSION_MOST / RECORDS_MOST };
+
+static uint32_t great_estimate(uint32_t en, uint32_t em, uint32_t f, size_t length, size_t version)
+{
+    fill_areas();
+    memset(great.bits, FILL, RECORDS_MOST + 1);
+    return estimate(en, em, f, great.list, length, great.bytes, version, great.bytes, VERSION_MOST, great.bits, RECORDS_MOST, answer, sizeof answer);
+}
+
+static uint32_t great_commit(uint32_t en, uint32_t em, uint32_t f, size_t length, size_t version, size_t records)
+{
+    fill_areas();
+    memset(great.out, FILL, LENGTH);
+    memset(great.stored, FILL, VERSION_MOST);
+    return commit(en, em, f, great.list, length, great.bytes, version, great.bytes, VERSION_MOST, great.bits, records, great.out, LENGTH, great.stored,
+                  VERSION_MOST, answer, sizeof answer);
+}
+
+/* Matches that go on in the store or begin 3 bytes after each other; held or not. */
+static void set_great(uint32_t step, uint8_t mark)
+{
+    for (uint32_t i = 0; i < RECORDS_MOST; i++) {
+        put_record(great.list, i, KIND_MATCH, PART, step * i);
+        great.list[RECORD_BYTES * i + 1] = mark;
+    }
+}
+
+/* Whether all of so many bytes are the same one. */
+static int all_are(const uint8_t *bytes, size_t n, uint8_t byte)
+{
+    return n == 0 || (bytes[0] == byte && memcmp(bytes, bytes + 1, n - 1) == 0);
+}
+
+/* An accepted estimate, which wrote the same byte for each record, and none behind them. */
+static int great_choice(uint32_t number, struct values want, uint8_t byte)
+{
+    return answered(number, want) && untouched() && all_are(great.bits, RECORDS_MOST, byte) && great.bits[RECORDS_MOST] == FILL;
+}
+
+/* A refused estimate, which wrote none. */
+static int great_unchosen(uint32_t returned, uint32_t number)
+{
+    return refused(returned, number, 0) && all_are(great.bits, RECORDS_MOST + 1, FILL);
+}
+
+/* An accepted commitment, which wrote the wanted list and zeros, and nothing behind them. */
+static int great_list(uint32_t number, struct values want)
+{
+    const size_t written = RECORD_BYTES * want.entries;
+    return answered(number, want) && untouched() && memcmp(great.out, great.wanted, written) == 0 && all_are(great.out + written, LENGTH - written, FILL)
+        && all_are(great.stored, want.stored, 0) && all_are(great.stored + want.stored, VERSION_MOST - want.stored, FILL);
+}
+
+static int great_refusal(uint32_t returned, uint32_t number, uint32_t place)
+{
+    return refused(returned, number, place) && all_are(great.out, LENGTH, FILL) && all_are(great.stored, VERSION_MOST, FILL);
+}
+
+/* All kept, 4,096 entries; all stored, 1 entry and 2^32 256ths of bytes; both at the price that makes it the least. */
+static void test_great_estimates(void)
+{
+    const struct values stored = { .cost = 16711425 + UINT64_C(4294967296), .entries = 1, .stored = VERSION_MOST };
+    const struct values stored_cheaply = { .cost = 65535 + UINT64_C(4294967296), .entries = 1, .stored = VERSION_MOST };
+    const struct values kept_dearly = { .cost = UINT64_C(68449996800), .entries = 4096 };
+    set_great(3, 0);
+    expect("estimate", "4,096 records", great_choice(great_estimate(1, 1, 1, LENGTH, VERSION_MOST), (struct values){ .cost = 4096, .entries = 4096 }, 0));
+    expect("estimate", "all stored at the greatest price", great_choice(great_estimate(E_MOST, E_MOST, F_MOST, LENGTH, VERSION_MOST), stored, 1));
+    expect("estimate", "all stored with the dearest matches", great_choice(great_estimate(1, E_MOST, F_MOST, LENGTH, VERSION_MOST), stored_cheaply, 1));
+    expect("estimate", "all kept with the dearest new entries", great_choice(great_estimate(E_MOST, 1, F_MOST, LENGTH, VERSION_MOST),
+        (struct values){ .cost = 4096 * 65535, .entries = 4096 }, 0));
+    expect("estimate", "a version of 16,777,217 bytes", great_unchosen(great_estimate(1, 1, 1, LENGTH, VERSION_MOST + 1), 2));
+    expect("estimate", "1 before 2", great_unchosen(great_estimate(0, 1, 1, LENGTH, VERSION_MOST + 1), 1));
+    expect("estimate", "2 before 3", great_unchosen(great_estimate(1, 1, 1, LENGTH - 1, VERSION_MOST + 1), 2));
+    set_great(3, MARK_HELD);
+    expect("estimate", "4,096 held records at the greatest price", great_choice(great_estimate(E_MOST, E_MOST, F_MOST, LENGTH, VERSION_MOST), kept_dearly, 0));
+    set_great(PART, 0);
+    expect("estimate", "4,096 records that go on", great_choice(great_estimate(E_MOST, E_MOST, F_MOST, LENGTH, VERSION_MOST),
+        (struct values){ .cost = 16711425, .entries = 1 }, 0));
+    set_great(PART, MARK_HELD);
+    expect("estimate", "4,096 held records that go on", great_choice(great_estimate(E_MOST, E_MOST, F_MOST, LENGTH, VERSION_MOST),
+        (struct values){ .cost = 16711425, .entries = 1 }, 0));
+}
+
+/* One byte for all records. */
+static void set_bits(uint8_t byte)
+{
+    memset(great.bits, byte, RECORDS_MOST + 1);
+}
+
+/* Records 1, 3, 5 and so on stored: 2,048 new entries and as many matches, whose bytes cost 2^31. */
+static void set_turns(void)
+{
+    for (uint32_t i = 0; i < RECORDS_MOST; i++) {
+        great.bits[i] = i % 2;
+        memcpy(great.wanted + RECORD_BYTES * i, great.list + RECORD_BYTES * i, RECORD_BYTES);
+        if (i % 2 == 1)
+            put_record(great.wanted, i, KIND_NEW, PART, 0);
+    }
+}
+
+static void test_great_commits(void)
+{
+    const struct values turns = { .cost = 4096 + UINT64_C(2147483648), .entries = 4096, .stored = VERSION_MOST / 2 };
+    const struct values turns_dearly = { .cost = UINT64_C(70597480448), .entries = 4096, .stored = VERSION_MOST / 2 };
+    set_great(3, 0), set_bits(0), memcpy(great.wanted, great.list, LENGTH);
+    expect("commit", "4,096 records kept", great_list(great_commit(1, 1, 1, LENGTH, VERSION_MOST, RECORDS_MOST),
+        (struct values){ .cost = 4096, .entries = 4096 }));
+    expect("commit", "4,096 records kept at the greatest price", great_list(great_commit(E_MOST, E_MOST, F_MOST, LENGTH, VERSION_MOST, RECORDS_MOST),
+        (struct values){ .cost = UINT64_C(68449996800), .entries = 4096 }));
+    set_bits(1), put_record(great.wanted, 0, KIND_NEW, VERSION_MOST, 0);
+    expect("commit", "4,096 records stored", great_list(great_commit(1, 1, 1, LENGTH, VERSION_MOST, RECORDS_MOST),
+        (struct values){ .cost = 1 + UINT64_C(4294967296), .entries = 1, .stored = VERSION_MOST }));
+    set_turns();
+    expect("commit", "4,096 records in turns at the greatest price", great_list(great_commit(E_MOST, E_MOST, F_MOST, LENGTH, VERSION_MOST, RECORDS_MOST),
+        turns_dearly));
+    set_great(PART, 0), set_turns();
+    expect("commit", "4,096 records that go on, in turns", great_list(great_commit(1, 1, 1, LENGTH, VERSION_MOST, RECORDS_MOST), turns));
+    set_bits(0), put_record(great.wanted, 0, KIND_MATCH, VERSION_MOST, 0);
+    expect("commit", "4,096 records that go on", great_list(great_commit(1, 1, 1, LENGTH, VERSION_MOST, RECORDS_MOST),
+        (struct values){ .cost = 1, .entries = 1 }));
+    great.bits[2048] = 1;
+    put_record(great.wanted, 0, KIND_MATCH, 2048 * PART, 0);
+    put_record(great.wanted, 1, KIND_NEW, PART, 0);
+    put_record(great.wanted, 2, KIND_MATCH, 2047 * PART, 2049 * PART);
+    expect("commit", "4,096 records that go on, one stored", great_list(great_commit(1, 1, 1, LENGTH, VERSION_MOST, RECORDS_MOST),
+        (struct values){ .cost = 3 + 256 * PART, .entries = 3, .stored = PART }));
+    set_great(PART, MARK_HELD), set_bits(0), put_record(great.wanted, 0, KIND_MATCH, VERSION_MOST, 0);
+    great.wanted[1] = MARK_HELD;
+    expect("commit", "4,096 held records that go on", great_list(great_commit(E_MOST, E_MOST, F_MOST, LENGTH, VERSION_MOST, RECORDS_MOST),
+        (struct values){ .cost = 16711425, .entries = 1 }));
+}
+
+static void test_great_no_choices(void)
+{
+    set_great(3, MARK_HELD), set_bits(0);
+    expect("commit", "4,095 bytes for 4,096 records", great_refusal(great_commit(1, 1, 1, LENGTH, VERSION_MOST, RECORDS_MOST - 1), 12, 0));
+    expect("commit", "4,097 bytes for 4,096 records", great_refusal(great_commit(1, 1, 1, LENGTH, VERSION_MOST, RECORDS_MOST + 1), 12, 0));
+    great.bits[RECORDS_MOST - 1] = 1;
+    expect("commit", "1 for the last of 4,096 held records", great_refusal(great_commit(1, 1, 1, LENGTH, VERSION_MOST, RECORDS_MOST), 12, 4095));
+    great.bits[RECORDS_MOST - 1] = 255;
+    set_great(3, 0);
+    expect("commit", "255 for the last of 4,096 records", great_refusal(great_commit(1, 1, 1, LENGTH, VERSION_MOST, RECORDS_MOST), 12, 4095));
+    expect("commit", "a version of 16,777,217 bytes, 2 before 12", great_refusal(great_commit(1, 1, 1, LENGTH, VERSION_MOST + 1, RECORDS_MOST), 2, 0));
+    expect("commit", "1 before 2", great_refusal(great_commit(0, 1, 1, LENGTH, VERSION_MOST + 1, RECORDS_MOST), 1, 0));
+    expect("commit", "2 before 3", great_refusal(great_commit(1, 1, 1, LENGTH - 1, VERSION_MOST + 1, RECORDS_MOST), 2, 0));
+}
+
+static void test_greatest_choices(void)
+{
+    great.list = memory(LENGTH), great.bits = memory(RECORDS_MOST + 1), great.bytes = memory((size_t)VERSION_MOST + 1);
+    great.out = memory(LENGTH), great.stored = memory(VERSION_MOST), great.wanted = memory(LENGTH);
+    hand("");
+    test_great_estimates();
+    test_great_commits();
+    test_great_no_choices();
+    free(great.list), free(great.bits), free(great.bytes), free(great.out), free(great.stored), free(great.wanted);
+}
+
 static void test_greatest_store(void)
 {
     uint8_t *huge = memory((size_t)STORE_MOST + 1), block[10] = { 0 };
@@ -1024,6 +1495,13 @@ static void test_greatest_store(void)
     fill_areas();
     expect("pass", "a store of 268,435,457 bytes", refused(pass(10, 10, 256, list, 36, (const uint8_t *)VERSION_C, 29, huge, (size_t)STORE_MOST + 1, choice,
         AREA, list_area, AREA, block_area, AREA, answer, sizeof answer), 2, 0));
+    fill_areas();
+    expect("estimate", "a store of 268,435,457 bytes", refused(estimate(10, 10, 256, list, 36, (const uint8_t *)VERSION_C, 29, huge, (size_t)STORE_MOST + 1,
+        choice, AREA, answer, sizeof answer), 2, 0));
+    hand("1");
+    fill_areas();
+    expect("commit", "a store of 268,435,457 bytes, 2 before 9 and 12", refused(commit(10, 10, 256, list, 36, (const uint8_t *)VERSION_C, 29, huge,
+        (size_t)STORE_MOST + 1, handed, handed_length, list_area, 0, block_area, 0, answer, sizeof answer), 2, 0));
     free(huge);
 }
 
@@ -1035,9 +1513,18 @@ int main(void)
     test_compare();
     test_accepted();
     test_refused(partition, "partition");
+    test_refused(estimated, "estimate");
+    test_refused(committed, "commit");
     test_refused(pass, "pass");
+    test_short_areas(partition, "partition", FOR_CHOICE, FOR_BLOCK, "");
+    test_short_areas(estimated, "estimate", FOR_CHOICE, FOR_CHOICE, "");
+    test_short_areas(committed, "commit of 101", FOR_LIST, FOR_BLOCK, "101");
+    test_short_areas(committed, "commit of 111", FOR_LIST, FOR_BLOCK, "111");
+    test_short_areas(pass, "pass", FOR_CHOICE, FOR_BLOCK, "");
+    test_no_choice();
     test_stretches();
     test_greatest_lists();
+    test_greatest_choices();
     test_greatest_store();
     printf("calls: %d cases of %d, %d wrong\n", cases, CASES, wrong);
     return cases != CASES || wrong != 0;

@@ -1,24 +1,29 @@
 /* differential.c - the library's calls against the reference, on random, damaged and extreme inputs.
  *
- * For each call: the number returned, the answer area, and every byte of every area lent for writing, with the bytes around it,
- * must be the reference's; what is lent for reading must stay as it was, and on refusal every area but the answer. Without the
- * reference: the written list is the one its choice makes, it measures as the answer says and rebuilds the version, it comes
- * back from a second partition as it is, short lists are tried against all their choices that keep the held matches, a match that stands alone
- * and is not held is stored exactly where that costs less, the held bytes of the version stay held at their addresses, and the pass keeps its
- * bounds; two lists are said to give the same version exactly where rebuild makes the same bytes of both, in either order, and a list gives the
- * same version as itself and as what partition and pass wrote of it; a match is refused, and a list said to give another version, exactly where
- * one of its bytes differs, whichever it is; measure, rebuild, check and compare do the same for a list without its marks, sound or not.
+ * For each call: the number returned, the answer area, and every byte of every area lent for writing, with the bytes around it, must be the
+ * reference's; what is lent for reading must stay as it was, and what lies beyond that which is due, on refusal every area but the answer, which
+ * then has number and place alone. Without the reference: the written list is the one its choice makes, it measures as the answer says and rebuilds
+ * the version, it comes back from a second partition as it is, short lists are tried against all their choices that keep the held matches, a match
+ * that stands alone and is not held is stored exactly where that costs less, the held bytes of the version stay held at their addresses, and the
+ * pass keeps its bounds; the estimate answers as partition does, refused or not, but for 9, and a commitment of its choice gives what partition
+ * gave, byte for byte; what is committed of any choice rebuilds the version and costs no less, with every match kept it is the list handed in with
+ * its runs joined, and what is no choice is refused at the place where it was spoilt; two lists are said to give the same version exactly where
+ * rebuild makes the same bytes of both, in either order, and a list gives the same version as itself and as what partition and pass wrote of it; a
+ * match is refused, and a list said to give another version, exactly where one of its bytes differs, whichever it is; measure, rebuild, check and
+ * compare do the same for a list without its marks, sound or not.
  *
- * In order: the calls; chance; the areas; fields; reports; one comparison; the laws; one case; valid inputs; second lists; damage; the
- * cases; the table. Not here: NULL for an empty area, which controller.h does not allow.
+ * In order: the calls; chance; the areas; fields; reports; one comparison; the laws; choices to commit; one case; valid inputs; second lists;
+ * damage; the cases; the table. Not here: NULL for an empty area, which controller.h does not allow.
  *
  *   differential [seed]
  *
- * The same seed gives the same inputs. Exit 0 where nothing differs, each number of document 01, for each list of compare, and each kind of
- * price below was reached, 4 also for a mark on a new record and for byte 1 over 1 on a match, a match differed in one byte at each pair of places
- * within a word, yes of two different lists and no were each given in two pairs of five or more, of neighbouring matches two in five or more go on
- * in the store and as many do not, about a third of the matches are held, and about a third of those that go on have another mark, marks were
- * flipped, a short list would have been cheaper with a held match stored, and calls were made without the marks, accepted and refused; else 1.
+ * The same seed gives the same inputs. Exit 0 where nothing differs, each number of documents 01 and 02, for each list of compare, and each kind of
+ * price below was reached, 4 also for a mark on a new record and for byte 1 over 1 on a match, 12 for each of its five causes, each kind of choice
+ * was judged by commit and stood behind another fault, and choices were committed that cost more than the estimate's, and as much, a match differed
+ * in one byte at each pair of places within a word, yes of two different lists and no were each given in two pairs of five or more, of neighbouring
+ * matches two in five or more go on in the store and as many do not, about a third of the matches are held, and about a third of those that go on
+ * have another mark, marks were flipped, a short list would have been cheaper with a held match stored, and calls were made without the marks,
+ * accepted and refused; else 1.
  */
 #include <inttypes.h>
 #include <signal.h>
@@ -32,9 +37,9 @@
 /* ---- The calls ---- */
 
 /* The calls; and, in the table, compare where the second list is at fault. */
-enum { MEASURE, REBUILD, CHECK, COMPARE, PARTITION, PASS, CALLS, SECOND_AT_FAULT = CALLS, ROWS };
+enum { MEASURE, REBUILD, CHECK, COMPARE, PARTITION, ESTIMATE, COMMIT, PASS, CALLS, SECOND_AT_FAULT = CALLS, ROWS };
 
-static const char *const call_name[ROWS] = { "measure", "rebuild", "check", "compare", "partition", "pass", "  second" };
+static const char *const call_name[ROWS] = { "measure", "rebuild", "check", "compare", "partition", "estimate", "commit", "pass", "  second" };
 
 /* How many of each case. */
 enum { SMALL_CASES = 1000000, MIDDLE_CASES = 8000, FULL_CASES = 60, BRUTE_RECORDS = 10, STRETCH_CASES = 14 };
@@ -65,12 +70,12 @@ static int one_in(uint32_t n)
 
 /* ---- The areas ---- */
 
-/* What a call is lent: the inputs, with a second list and its stored block, and the lengths of the areas to write; and the chance, in thirds, that a
- * match is held. */
+/* What a call is lent: the inputs, with a second list and its stored block, and a choice for commit, and the lengths of the areas to write; and the
+ * chance, in thirds, that a match is held. */
 struct input {
     uint32_t en, em, f, k, held_of_3;
-    uint8_t *list, *version, *store, *block, *second, *second_block;
-    size_t list_len, version_len, store_len, block_len, second_len, second_block_len;
+    uint8_t *list, *version, *store, *block, *second, *second_block, *handed;
+    size_t list_len, version_len, store_len, block_len, second_len, second_block_len, handed_len;
     size_t choice_len, list_area_len, block_area_len, area_len, answer_len;
 };
 
@@ -78,8 +83,8 @@ struct input {
 enum { GUARD = 64, ROOM = 4096, NOISE = 65536 };
 
 /* The inputs, each with a copy to see that it stays; zeros stands for a version or store of any length and has no copy. */
-static uint8_t *list_bytes, *version_bytes, *store_bytes, *block_bytes, *second_bytes, *second_block_bytes;
-static uint8_t *list_copy, *version_copy, *store_copy, *block_copy, *second_copy, *second_block_copy;
+static uint8_t *list_bytes, *version_bytes, *store_bytes, *block_bytes, *second_bytes, *second_block_bytes, *handed_bytes;
+static uint8_t *list_copy, *version_copy, *store_copy, *block_copy, *second_copy, *second_block_copy, *handed_copy;
 static uint8_t *zeros;
 static uint8_t noise[2 * NOISE];
 
@@ -106,11 +111,16 @@ static const unsigned lent[CALLS] = {
     1u << ANSWER,
     1u << ANSWER,
     1u << CHOICE | 1u << LIST | 1u << BLOCK | 1u << ANSWER,
+    1u << CHOICE | 1u << ANSWER,
+    1u << LIST | 1u << BLOCK | 1u << ANSWER,
     1u << CHOICE | 1u << LIST | 1u << BLOCK | 1u << ANSWER,
 };
 
 /* The areas of the second partition and of the laws. */
 static uint8_t *law_choice, *law_list, *law_block, *law_whole, *law_second, *law_second_whole;
+
+/* What partition wrote, for the estimate and the commitment. */
+static uint8_t *kept_choice, *kept_list, *kept_block;
 
 static uint8_t *room_for(size_t most)
 {
@@ -134,6 +144,8 @@ static void make_room(void)
     zeros = room_for(STORE_MOST);
     law_choice = room_for(RECORDS_MOST), law_list = room_for(list_most), law_second = room_for(list_most);
     law_block = room_for(VERSION_MOST), law_whole = room_for(VERSION_MOST), law_second_whole = room_for(VERSION_MOST);
+    kept_choice = room_for(RECORDS_MOST), kept_list = room_for(list_most), kept_block = room_for(VERSION_MOST);
+    handed_bytes = room_for(RECORDS_MOST), handed_copy = room_for(RECORDS_MOST);
     for (int a = 0; a < AREAS; a++)
         for (int side = 0; side < SIDES; side++)
             areas[a].bytes[side] = room_for(areas[a].most);
@@ -214,6 +226,13 @@ static struct given read_answer(const uint8_t *b)
     return g;
 }
 
+/* Whether two calls answered the same, looks and whole length too. */
+static int same_answers(const struct given *a, const struct given *b)
+{
+    return a->number == b->number && a->place == b->place && a->cost == b->cost && a->entries == b->entries && a->stored == b->stored
+        && a->looks == b->looks && a->whole == b->whole;
+}
+
 /* ---- Reports ---- */
 
 static uint64_t case_count;
@@ -239,6 +258,7 @@ static void dump_input(const struct input *in)
     dump("stored block", in->block, in->block_len);
     dump("second list", in->second, in->second_len);
     dump("its stored block", in->second_block, in->second_block_len);
+    dump("choice handed to commit", in->handed, in->handed_len);
 }
 
 static void dump_answers(int call, const struct input *in)
@@ -288,6 +308,7 @@ static void keep_inputs(const struct input *in)
     memcpy(block_copy, in->block, in->block_len);
     memcpy(second_copy, in->second, in->second_len);
     memcpy(second_block_copy, in->second_block, in->second_block_len);
+    memcpy(handed_copy, in->handed, in->handed_len);
     if (in->version != zeros)
         memcpy(version_copy, in->version, in->version_len);
     if (in->store != zeros)
@@ -304,6 +325,8 @@ static void inputs_stayed(int call, const struct input *in)
         differ(call, "the second list was written to", in);
     if (memcmp(second_block_copy, in->second_block, in->second_block_len) != 0)
         differ(call, "the second stored block was written to", in);
+    if (memcmp(handed_copy, in->handed, in->handed_len) != 0)
+        differ(call, "the choice handed to commit was written to", in);
     if (in->version != zeros && memcmp(version_copy, in->version, in->version_len) != 0)
         differ(call, "the version was written to", in);
     if (in->store != zeros && memcmp(store_copy, in->store, in->store_len) != 0)
@@ -333,6 +356,14 @@ static uint32_t run(int call, int side, const struct input *in)
                                                      in->store, in->store_len, area(CHOICE, side), in->choice_len,
                                                      area(LIST, side), in->list_area_len,
                                                      area(BLOCK, side), in->block_area_len, answer, in->answer_len);
+    case ESTIMATE:
+        return (library ? estimate : ref_estimate)(in->en, in->em, in->f, in->list, in->list_len, in->version, in->version_len,
+                                                   in->store, in->store_len, area(CHOICE, side), in->choice_len, answer, in->answer_len);
+    case COMMIT:
+        return (library ? commit : ref_commit)(in->en, in->em, in->f, in->list, in->list_len, in->version, in->version_len,
+                                               in->store, in->store_len, in->handed, in->handed_len,
+                                               area(LIST, side), in->list_area_len,
+                                               area(BLOCK, side), in->block_area_len, answer, in->answer_len);
     default:
         return (library ? pass : ref_pass)(in->en, in->em, in->f, in->list, in->list_len, in->version, in->version_len,
                                            in->store, in->store_len, area(CHOICE, side), in->choice_len,
@@ -341,8 +372,18 @@ static uint32_t run(int call, int side, const struct input *in)
     }
 }
 
-/* Both sides of an area, guards included; on refusal also as it was lent. */
-static void same_area(int call, int which, int refused, const struct input *in)
+/* How many bytes of an area a call had to write, by its answer. */
+static size_t due_bytes(int call, int which, const struct input *in)
+{
+    const struct given *g = &given[call];
+    const size_t due[AREAS] = { records(in), RECORD_BYTES * (size_t)g->entries, g->stored, g->whole, ANSWER_BYTES };
+    if (which == ANSWER)
+        return in->answer_len < ANSWER_BYTES ? 0 : ANSWER_BYTES;
+    return g->number != ACCEPTED ? 0 : due[which] < areas[which].len ? due[which] : areas[which].len;
+}
+
+/* Both sides of an area, guards included; and beyond what was due, which is all of it on refusal, as it was lent. */
+static void same_area(int call, int which, const struct input *in)
 {
     const struct area *a = &areas[which];
     const size_t watched = a->len + 2 * GUARD;
@@ -355,18 +396,21 @@ static void same_area(int call, int which, int refused, const struct input *in)
                  (long long)i - GUARD, a->bytes[LIBRARY][i], a->bytes[REFERENCE][i]);
         differ(call, what, in);
     }
-    if (refused && memcmp(a->bytes[LIBRARY], a->bytes[UNTOUCHED], watched) != 0) {
-        snprintf(what, sizeof what, "%s was written to on refusal", a->name);
+    const size_t beyond = GUARD + due_bytes(call, which, in);
+    if (memcmp(a->bytes[LIBRARY], a->bytes[UNTOUCHED], GUARD) != 0 ||
+        memcmp(a->bytes[LIBRARY] + beyond, a->bytes[UNTOUCHED] + beyond, watched - beyond) != 0) {
+        snprintf(what, sizeof what, "%s was written to %s", a->name, given[call].number == ACCEPTED ? "beyond what is due" : "on refusal");
         differ(call, what, in);
     }
 }
 
-/* The columns of the table: numbers 0 to 11, 6 at the short end, 9 for the answer area, and 4 for nothing but a mark on a new record, or for nothing
- * but byte 1 over 1 on a match. */
-enum { SHORT_END = 12, SHORT_ANSWER = 13, MARKED_NEW = 14, OVER_ONE = 15, COLUMNS = 16 };
+/* The columns of the table: numbers 0 to 11, 6 at the short end, 9 for the answer area, 4 for nothing but a mark on a new record, or for nothing but
+ * byte 1 over 1 on a match, and 12 by its causes: a choice too short or too long, a byte over 1, a new record kept, a held match stored. */
+enum { SHORT_END = 12, SHORT_ANSWER, MARKED_NEW, OVER_ONE, CHOICE_SHORT, CHOICE_LONG, CHOICE_OVER, CHOICE_NEW, CHOICE_HELD, COLUMNS };
 static const struct { const char *name, *where; int number; } special[COLUMNS - SHORT_END] = {
     { "6 end", " at the short end", 6 }, { "9 ans", " for the answer area", 9 }, { "4 mark", " for a mark on a new record", 4 },
-    { "4 over", " for byte 1 over 1 on a match", 4 },
+    { "4 over", " for byte 1 over 1 on a match", 4 }, { "12 less", " for a choice too short", 12 }, { "12 more", " for a choice too long", 12 },
+    { "12 over", " for a byte over 1", 12 }, { "12 new", " for a new record kept", 12 }, { "12 held", " for a held match stored", 12 },
 };
 static uint64_t compared[ROWS], reached[ROWS][COLUMNS];
 
@@ -384,14 +428,26 @@ static int first_is_sound(void)
     return given[REBUILD].number == ACCEPTED || given[REBUILD].number == AREA_TOO_SHORT;
 }
 
+/* The column of number 12: by the length, else by the byte at the place. */
+static uint32_t choice_column(const struct input *in, uint32_t place)
+{
+    if (in->handed_len != records(in))
+        return in->handed_len < records(in) ? CHOICE_SHORT : CHOICE_LONG;
+    if (place >= records(in) || in->handed[place] > 1)
+        return CHOICE_OVER;
+    return in->handed[place] == 0 ? CHOICE_NEW : CHOICE_HELD;
+}
+
 static void tally(int call, const struct input *in)
 {
     const struct given *g = &given[call];
     const int second = call == COMPARE && g->number != ACCEPTED && in->answer_len >= ANSWER_BYTES && first_is_sound();
     const int row = second ? SECOND_AT_FAULT : call;
     uint32_t column = g->number;
-    if (g->number == BAD_SIZES && g->place == records(in) && (call == PARTITION || call == PASS))
+    if (g->number == BAD_SIZES && g->place == records(in) && call >= PARTITION)
         column = SHORT_END;
+    if (g->number == BAD_CHOICE)
+        column = choice_column(in, g->place);
     if (g->number == MALFORMED_RECORD)
         column = malformed_column(record(second ? in->second : in->list, g->place));
     if (in->answer_len < ANSWER_BYTES)
@@ -413,12 +469,14 @@ static int try_call(int call, const struct input *in)
     const int answered = in->answer_len >= ANSWER_BYTES;
     if (library != reference)
         differ_in_number(call, library, reference, in);
-    for (int a = 0; a < AREAS; a++)
-        if (lent[call] >> a & 1)
-            same_area(call, a, library != ACCEPTED && !(a == ANSWER && answered), in);
     given[call] = answered ? read_answer(area(ANSWER, LIBRARY)) : (struct given){ .number = library };
     if (given[call].number != library)
         differ(call, "returned another number than it answered", in);
+    if (library != ACCEPTED && !same_answers(&given[call], &(struct given){ .number = library, .place = given[call].place }))
+        differ(call, "gives more than number and place on refusal", in);
+    for (int a = 0; a < AREAS; a++)
+        if (lent[call] >> a & 1)
+            same_area(call, a, in);
     tally(call, in);
     return library == ACCEPTED;
 }
@@ -516,10 +574,10 @@ static size_t list_of_choice(const struct input *in, const uint8_t *choice, size
     return entries;
 }
 
-/* The written list and block are the ones that the written choice makes. */
+/* The written list and block are the ones that the choice makes, which was written too or, by commit, read. */
 static void law_of_choice(int call, const struct input *in)
 {
-    const uint8_t *choice = area(CHOICE, LIBRARY);
+    const uint8_t *choice = call == COMMIT ? in->handed : area(CHOICE, LIBRARY);
     for (size_t i = 0; i < records(in); i++)
         if (choice[i] > 1 || (record(in->list, i)[0] == 0 && choice[i] != 1) || (is_held(in, i) && choice[i] != 0))
             differ(call, "a choice byte that no choice for this list has", in);
@@ -597,6 +655,28 @@ static void law_of_second_partition(const struct input *in)
     for (size_t i = 0; i < g->entries; i++)
         if (law_choice[i] != (record(list, i)[0] == 0))
             differ(PARTITION, "the second partition chooses otherwise", in);
+}
+
+/* Keeps what partition answered and wrote. */
+static void keep_partition(const struct input *in)
+{
+    memcpy(kept_choice, area(CHOICE, LIBRARY), records(in));
+    memcpy(kept_list, area(LIST, LIBRARY), RECORD_BYTES * given[PARTITION].entries);
+    memcpy(kept_block, area(BLOCK, LIBRARY), given[PARTITION].stored);
+}
+
+/* Where partition had its areas, the estimate's answer is partition's, refused or not, and its choice too; where partition had not, the estimate asks
+ * for the choice area alone. */
+static void law_of_estimate(const struct input *in)
+{
+    const struct given *p = &given[PARTITION], *e = &given[ESTIMATE];
+    const int by_choice = in->answer_len < ANSWER_BYTES || in->choice_len < records(in);
+    if ((p->number != AREA_TOO_SHORT || e->number == AREA_TOO_SHORT) && !same_answers(p, e))
+        differ(ESTIMATE, "the estimate answers otherwise than partition", in);
+    if (p->number == AREA_TOO_SHORT && (e->number == AREA_TOO_SHORT) != by_choice)
+        differ(ESTIMATE, "the estimate asks for another area than that for the choice", in);
+    if (p->number == ACCEPTED && memcmp(area(CHOICE, LIBRARY), kept_choice, records(in)) != 0)
+        differ(ESTIMATE, "the estimate chooses otherwise than partition", in);
 }
 
 /* The cost of choice c, record 0 in its highest bit; UINT64_MAX where it keeps a new record, or stores a held one, which may be allowed. */
@@ -802,6 +882,158 @@ static void law_of_pass(const struct input *in)
     dearer_passes += g->cost > given[PARTITION].cost;
 }
 
+/* ---- Choices to commit: the estimate's, others of the list, and what is none ---- */
+
+enum { LEAST, ANY, ALL_KEPT, ALL_STORED, SHORTENED, LENGTHENED, BYTE_OVER, NEW_KEPT, HELD_STORED, KINDS };
+static const char *const kind_name[KINDS] = {
+    "as estimated", "any", "all kept", "all stored", "too short", "too long", "a byte over 1", "a new record kept", "a held match stored",
+};
+
+/* Of the choices handed to commit, by their kind: those that it came to judge, and those of which another fault was found first. */
+static uint64_t judged[KINDS], not_judged[KINDS];
+
+/* A kind of choice, and the record at which it was spoilt first, 0 for its length. */
+struct handing {
+    int kind;
+    size_t place;
+};
+
+/* A byte that record i may have in a choice of this kind, if it is sound. */
+static uint8_t byte_for(const struct input *in, size_t i, int kind)
+{
+    const uint8_t *r = record(in->list, i);
+    if (r[0] == 0 || r[1] == 1)
+        return r[0] == 0;
+    return kind == ALL_KEPT ? 0 : kind == ALL_STORED ? 1 : (uint8_t)below(2);
+}
+
+/* A new record, or a held match, looked for from anywhere on; the number of records where there is none. */
+static size_t record_with(const struct input *in, int held)
+{
+    const size_t n = records(in), from = n == 0 ? 0 : below(n);
+    for (size_t i = 0; i < n; i++) {
+        const uint8_t *r = record(in->list, (from + i) % n);
+        if (held ? r[0] == 1 && r[1] == 1 : r[0] == 0)
+            return (from + i) % n;
+    }
+    return n;
+}
+
+/* Spoils one byte of a choice; where there is no new record or no held match, it gets a byte over 1. */
+static struct handing spoil_byte(const struct input *in, int kind)
+{
+    const size_t found = kind == BYTE_OVER ? records(in) : record_with(in, kind == HELD_STORED);
+    if (found < records(in)) {
+        in->handed[found] = kind == HELD_STORED;
+        return (struct handing){ kind, found };
+    }
+    const size_t place = below(records(in));
+    in->handed[place] = (uint8_t)(one_in(2) ? 2 : 2 + below(254));
+    return (struct handing){ BYTE_OVER, place };
+}
+
+/* The length becomes a byte too short or too long, or more than that; half of these choices have a wrong byte too. */
+static struct handing spoil_length(struct input *in, int kind)
+{
+    const size_t n = records(in);
+    if (n > 0 && one_in(2))
+        spoil_byte(in, BYTE_OVER + (int)below(3));
+    if (kind == SHORTENED && n > 0) {
+        in->handed_len = one_in(2) ? n - 1 : below(n);
+        return (struct handing){ SHORTENED, 0 };
+    }
+    in->handed_len = n + 1 + (one_in(2) ? 0 : below(48));
+    for (size_t i = n; i < in->handed_len; i++)
+        in->handed[i] = (uint8_t)below(2);
+    return (struct handing){ LENGTHENED, 0 };
+}
+
+/* Half of the cases get the estimate's choice; where it gave none, any. A wrong byte is, in one case of four, the first of two that are wrong. */
+static struct handing draw_choice(struct input *in)
+{
+    const int kind = one_in(2) ? LEAST : 1 + (int)below(KINDS - 1), estimated = given[ESTIMATE].number == ACCEPTED;
+    in->handed = handed_bytes;
+    in->handed_len = records(in);
+    for (size_t i = 0; i < records(in); i++)
+        in->handed[i] = kind == LEAST && estimated ? area(CHOICE, LIBRARY)[i] : byte_for(in, i, kind);
+    if (kind == SHORTENED || kind == LENGTHENED || (kind > LENGTHENED && records(in) == 0))
+        return spoil_length(in, kind);
+    if (kind < SHORTENED)
+        return (struct handing){ kind == LEAST && !estimated ? ANY : kind, 0 };
+    struct handing first = spoil_byte(in, kind);
+    if (one_in(4)) {
+        const struct handing other = spoil_byte(in, BYTE_OVER + (int)below(3));
+        first = other.place < first.place ? other : first;
+    }
+    return first;
+}
+
+/* With every match kept, the written list is the one handed in, each longest run of it one record with the first's fields. */
+static void law_of_kept(const struct input *in)
+{
+    const uint8_t *written = area(LIST, LIBRARY);
+    size_t entries = 0;
+    for (size_t i = 0; i < records(in); entries++) {
+        const uint8_t *r = record(in->list, i), *w = written + RECORD_BYTES * entries;
+        uint32_t size = size_at(in, i++);
+        while (i < records(in) && goes_on(in, i))
+            size += size_at(in, i++);
+        if (entries == given[COMMIT].entries || memcmp(w, r, 4) != 0 || memcmp(w + 8, r + 8, 4) != 0 || get32(w + 4) != size)
+            differ(COMMIT, "with every match kept, not the list handed in with its runs joined", in);
+    }
+    if (entries != given[COMMIT].entries || given[COMMIT].cost > given[MEASURE].cost)
+        differ(COMMIT, "with every match kept, more entries or a greater cost than the list handed in", in);
+}
+
+/* The estimate's choice, committed, gives what partition gave. */
+static void law_of_split(const struct input *in)
+{
+    const struct given *p = &given[PARTITION];
+    if (!same_answers(p, &given[COMMIT]))
+        differ(COMMIT, "the estimate's choice is committed with another answer than partition's", in);
+    if (memcmp(area(LIST, LIBRARY), kept_list, RECORD_BYTES * p->entries) != 0 || memcmp(area(BLOCK, LIBRARY), kept_block, p->stored) != 0)
+        differ(COMMIT, "the estimate's choice is committed with another list or block than partition's", in);
+}
+
+static uint64_t dearer_commits, as_dear_commits;
+
+/* What was written of a choice. */
+static void laws_of_commit(const struct input *in, struct handing handing)
+{
+    law_of_choice(COMMIT, in);
+    law_of_measure(COMMIT, in);
+    law_of_rebuild(COMMIT, in);
+    law_of_held(COMMIT, in);
+    if (handing.kind == ALL_KEPT)
+        law_of_kept(in);
+    if (given[ESTIMATE].number != ACCEPTED)
+        return;
+    if (handing.kind == LEAST)
+        law_of_split(in);
+    if (given[COMMIT].cost < given[ESTIMATE].cost)
+        differ(COMMIT, "a commitment costs less than the estimate", in);
+    dearer_commits += given[COMMIT].cost > given[ESTIMATE].cost;
+    as_dear_commits += handing.kind != LEAST && given[COMMIT].cost == given[ESTIMATE].cost;
+}
+
+/* What partition refuses is refused so, but for 9 by its area for the choice. Where that is the fault, or none is, the choice decides. */
+static void try_commit(const struct input *inputs)
+{
+    struct input in = *inputs;
+    const struct handing handing = draw_choice(&in);
+    const struct given *p = &given[PARTITION], *c = &given[COMMIT];
+    const int accepted = try_call(COMMIT, &in), written = in.list_area_len >= in.list_len && in.block_area_len >= in.version_len;
+    if (p->number != ACCEPTED && (p->number != AREA_TOO_SHORT || c->number == AREA_TOO_SHORT) && !same_answers(p, c))
+        differ(COMMIT, "refused otherwise than partition", &in);
+    if (p->number == AREA_TOO_SHORT && (c->number == AREA_TOO_SHORT) == (in.answer_len >= ANSWER_BYTES && written))
+        differ(COMMIT, "a commitment asks for other areas than those for list and stored block", &in);
+    if (p->number == ACCEPTED && (c->number != (handing.kind < SHORTENED ? ACCEPTED : BAD_CHOICE) || c->place != handing.place))
+        differ(COMMIT, "a choice is judged otherwise than by its length and bytes", &in);
+    (accepted || c->number == BAD_CHOICE ? judged : not_judged)[handing.kind]++;
+    if (accepted)
+        laws_of_commit(&in, handing);
+}
+
 /* ---- One case ---- */
 
 /* Compares all calls on one input; the laws follow the call they speak of, while its areas stand. */
@@ -833,7 +1065,11 @@ static void try_input(const struct input *in)
         law_of_lone_matches(in);
         if (records(in) <= BRUTE_RECORDS)
             law_of_least(in);
+        keep_partition(in);
     }
+    try_call(ESTIMATE, in);
+    law_of_estimate(in);
+    try_commit(in);
     if (try_call(PASS, in) != accepted)
         differ(PASS, "accepted or refused otherwise than partition", in);
     if (accepted) {
@@ -874,6 +1110,7 @@ static struct input empty_input(size_t store_len)
     in.block = block_bytes;
     in.second = second_bytes;
     in.second_block = second_block_bytes;
+    in.handed = handed_bytes;
     in.store_len = store_len;
     return in;
 }
@@ -1389,8 +1626,8 @@ enum { LONGEST = 136, WORD = 8 };
 /* The matches that differ in one byte, by their places within a word in version and store. */
 static uint64_t differed[WORD][WORD];
 
-/* A match after up to 7 new bytes. Where one of its bytes differs, partition and pass give 8 at its place, and compare says no of the list and one
- * that stores the version; where none does, they accept it, and compare says yes. */
+/* A match after up to 7 new bytes. Where one of its bytes differs, partition, estimate, commit and pass give 8 at its place, and compare says no of the
+ * list and one that stores the version; where none does, they accept it, commit by its choice, and compare says yes. */
 static void try_stretch(uint32_t size, uint32_t differs)
 {
     const uint32_t fresh = below(WORD), letters = 1 + below(256), number = differs < size ? MISMATCH : ACCEPTED;
@@ -1408,7 +1645,7 @@ static void try_stretch(uint32_t size, uint32_t differs)
     store_second(&in);
     try_input(&in);
     for (int call = PARTITION; call <= PASS; call++)
-        if (given[call].number != number || given[call].place != place)
+        if ((call != COMMIT || number == MISMATCH) && (given[call].number != number || given[call].place != place))
             differ(call, "a match is judged otherwise than by its bytes", &in);
     if (given[COMPARE].number != ACCEPTED || given[COMPARE].entries != (number == ACCEPTED ? YES : NO))
         differ(COMPARE, "a match and the stored version are judged otherwise than by their bytes", &in);
@@ -1582,13 +1819,15 @@ static void longest_full_case(uint32_t en, uint32_t em, uint32_t f)
 
 /* The columns that each row must reach; a store that is too long is found with the first list. */
 static const char *const required[ROWS] = {
-    "xx.xxxx......xxx",
-    "x.xxxxxx.xx..xxx",
-    "x.xxxxxx..xx.xxx",
-    "x.xxxxxx..x..xxx",
-    "xxxxxxxxxx..xxxx",
-    "xxxxxxxxxx..xxxx",
-    "...xxxxx..x...xx",
+    "xx.xxxx......xxx.....",
+    "x.xxxxxx.xx..xxx.....",
+    "x.xxxxxx..xx.xxx.....",
+    "x.xxxxxx..x..xxx.....",
+    "xxxxxxxxxx..xxxx.....",
+    "xxxxxxxxxx..xxxx.....",
+    "xxxxxxxxxx..xxxxxxxxx",
+    "xxxxxxxxxx..xxxx.....",
+    "...xxxxx..x...xx.....",
 };
 
 static void print_differed(void)
@@ -1600,6 +1839,14 @@ static void print_differed(void)
         fewest = here < fewest ? here : fewest;
     }
     printf("matches that differ in one byte: %" PRIu64 ", at each pair of places within a word %" PRIu64 " or more\n", all, fewest);
+}
+
+static void print_choices(void)
+{
+    printf("choices handed to commit, and judged or not:");
+    for (int kind = 0; kind < KINDS; kind++)
+        printf("%s %s %" PRIu64 ", %" PRIu64, kind == 0 ? "" : ";", kind_name[kind], judged[kind], not_judged[kind]);
+    printf("\ncommitments dearer than the estimate: %" PRIu64 ", of other choices as dear: %" PRIu64 "\n", dearer_commits, as_dear_commits);
 }
 
 static void print_table(void)
@@ -1627,6 +1874,7 @@ static void print_table(void)
     printf("\n");
     printf("compare: yes of two different lists %" PRIu64 ", of one and the same %" PRIu64 ", no %" PRIu64 "\n", yes_of_two_lists,
            yes_of_one_list, no);
+    print_choices();
     print_differed();
     printf("partitions accepted");
     for (int i = 0; i < FACTORS; i++)
@@ -1700,6 +1948,23 @@ static int missing_marks(void)
     return count;
 }
 
+/* How many kinds of choice were never judged, or never stood behind another fault; and whether no other choice ever cost more than the estimate's, or
+ * none as much. */
+static int missing_choices(void)
+{
+    int count = 0;
+    for (int kind = 0; kind < KINDS; kind++)
+        if (judged[kind] == 0 || not_judged[kind] == 0) {
+            printf("differential: a choice %s was never judged, or never stood behind another fault\n", kind_name[kind]);
+            count++;
+        }
+    if (dearer_commits == 0 || as_dear_commits == 0) {
+        printf("differential: no commitment was dearer than the estimate, or none of another choice as dear\n");
+        count++;
+    }
+    return count;
+}
+
 /* How many pairs of places within a word had no match that differs. */
 static int missing_places(void)
 {
@@ -1759,7 +2024,7 @@ int main(int argc, char **argv)
         puts("differential: the long store was written to");
         return 1;
     }
-    if (missing_prices() + missing_columns() + missing_places() + uneven_counts() + missing_marks() > 0)
+    if (missing_prices() + missing_columns() + missing_places() + uneven_counts() + missing_marks() + missing_choices() > 0)
         return 1;
     printf("differential: %" PRIu64 " calls compared, 0 differences\n", calls);
     return 0;

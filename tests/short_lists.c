@@ -1,13 +1,14 @@
-/* short_lists.c - partition and pass on every short list, against every choice of it and a second writing of the five rules.
+/* short_lists.c - partition, estimate and pass on every short list, against every choice of it and a second writing of the five rules.
  *
- * Written from document 01, and document 02's S-1, S-2, S-4 and S-6, alone: nothing here is of the crates or of tests/reference. The lists have 0
+ * Written from document 01, and document 02's S-1, S-2, S-4, S-6 and S-7, alone: nothing here is of the crates or of tests/reference. The lists have 0
  * to 6 records, new or match, of the sizes 1, 3, 4, 7 and 8, but none of 7 among six; each match after a match once goes on in the store
  * where that one ended, and once begins a byte later. Among up to four records, and among five of the sizes 1, 4 and 8, each match is once held and
  * once not. All of them are tried at each of eight prices: every entry at 4 disk bytes, at a little less and a little more, and at 3 and a half;
  * new entries cheaper than matches, twice; and dearer, twice. Partition must give the choice that comes first among all that keep the held
- * matches, which costs no less than the first without the marks; pass must give what the rules leave, for which a held match is of neither kind,
- * and keep its bounds: no dearer than the list handed in, nor than that with its runs joined, no cheaper than the least choice, at most 2n - 1
- * looks for the n records after joining, and no match stored alone. Answers are compared field by field and areas to their last byte.
+ * matches, which costs no less than the first without the marks, and estimate the same without list and stored block; pass must give what the rules
+ * leave, for which a held match is of neither kind, and keep its bounds: no dearer than the list handed in, nor than that with its runs joined, no
+ * cheaper than the least choice, at most 2n - 1 looks for the n records after joining, and no match stored alone. Answers are compared field by
+ * field and areas to their last byte.
  *
  * In order: the price; lists; a choice; the least choice; the pass; what is due; one call; one list; all lists; all prices.
  * Exit 0 and a line with the counts for each price, each held to its number, else 1 and a line for each of the first lists that are wrong.
@@ -406,8 +407,17 @@ struct input {
     uint8_t version[LONGEST];
 };
 
+/* Estimate is made with the arguments of partition; what it is not lent must stay. */
 typedef uint32_t call_of(uint32_t, uint32_t, uint32_t, const uint8_t *, size_t, const uint8_t *, size_t, const uint8_t *, size_t,
                          uint8_t *, size_t, uint8_t *, size_t, uint8_t *, size_t, uint8_t *, size_t);
+
+static uint32_t estimated(uint32_t en, uint32_t em, uint32_t f, const uint8_t *list, size_t list_len, const uint8_t *version, size_t version_len,
+                          const uint8_t *old, size_t old_len, uint8_t *choice, size_t choice_len, uint8_t *list_area, size_t list_area_len,
+                          uint8_t *block_area, size_t block_area_len, uint8_t *answer, size_t answer_len)
+{
+    (void)list_area, (void)list_area_len, (void)block_area, (void)block_area_len;
+    return estimate(en, em, f, list, list_len, version, version_len, old, old_len, choice, choice_len, answer, answer_len);
+}
 
 static uint32_t make_call(call_of *call, const struct input *in, struct areas *got)
 {
@@ -424,14 +434,16 @@ static void put_number(uint8_t *to, size_t bytes, uint64_t n)
         to[i] = (uint8_t)(n >> (8 * i));
 }
 
-/* The areas as they are due: accepted, so number and place are 0; neither call gives a whole length. */
-static struct areas areas_due(const struct input *in, const struct due *due)
+/* The areas as they are due: accepted, so number and place are 0; no call gives a whole length. */
+static struct areas areas_due(call_of *call, const struct input *in, const struct due *due)
 {
     struct areas areas;
     memset(&areas, FILL, sizeof areas);
     memcpy(areas.choice, due->made.bits, in->list.n);
-    write_list(&due->made.list, areas.list);
-    write_block(&due->made.list, in->version, areas.block);
+    if (call != estimated) {
+        write_list(&due->made.list, areas.list);
+        write_block(&due->made.list, in->version, areas.block);
+    }
     memset(areas.answer, 0, ANSWER_BYTES);
     put_number(areas.answer + 8, 8, due->made.cost);
     put_number(areas.answer + 16, 4, due->made.list.n);
@@ -448,7 +460,7 @@ static const char *differs(call_of *call, const struct input *in, const struct d
         { "whole length", 28, 4 }, { "answer area, beyond", ANSWER_BYTES, ANSWER_AREA - ANSWER_BYTES },
     };
     struct areas got;
-    const struct areas want = areas_due(in, due);
+    const struct areas want = areas_due(call, in, due);
     if (make_call(call, in, &got) != ACCEPTED)
         return "returned number";
     for (size_t i = 0; i < sizeof fields / sizeof fields[0]; i++)
@@ -534,6 +546,7 @@ static void try_list(const struct input *in)
     const struct rivals all = rivals_of(list);
     const struct due least = partition_due(&all), passed = pass_due(list);
     try_call("partition", partition, in, &least);
+    try_call("estimate", estimated, in, &least);
     try_call("pass", pass, in, &passed);
     expect(leaves_a_choice(list, &passed), list, "the rules", "leave no choice's list");
     expect(least.made.cost <= passed.made.cost, list, "the rules", "leave a list under the least cost");

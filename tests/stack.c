@@ -26,9 +26,9 @@ static struct {
     size_t length, stored;
 } input;
 
-/* Version, store and stored block are zeros: every match is one. */
+/* Version, store and stored block are zeros: every match is one. Commit is handed a choice that stores one match of three, but no held one. */
 static uint8_t zeros[BYTES];
-static uint8_t choice[RECORDS_MOST], list_area[RECORDS_MOST * RECORD_BYTES], area[BYTES], answer[ANSWER_BYTES];
+static uint8_t choice[RECORDS_MOST], handed[RECORDS_MOST], list_area[RECORDS_MOST * RECORD_BYTES], area[BYTES], answer[ANSWER_BYTES];
 
 /* A list: sizes from `size` on, which go round in `round`, a new record at each multiple of `new_every`, and of the matches a held one at each
  * multiple of `held_every`, if these are not 0. */
@@ -67,6 +67,7 @@ static void set_input(const struct shape *shape)
         record[0] = !is_new;
         record[1] = !is_new && shape->held_every && i % shape->held_every == 0;
         record[4] = (uint8_t)size;
+        handed[i] = is_new || (record[1] == 0 && i % 3 == 1);
         input.length += size;
         input.stored += is_new ? size : 0;
     }
@@ -110,6 +111,18 @@ static void call_partition(void)
                        list_area, sizeof list_area, area, BYTES, answer, sizeof answer);
 }
 
+static void call_estimate(void)
+{
+    number = estimate(input.en, input.em, input.f, input.list, sizeof input.list, zeros, input.length, zeros, BYTES, choice, sizeof choice, answer,
+                      sizeof answer);
+}
+
+static void call_commit(void)
+{
+    number = commit(input.en, input.em, input.f, input.list, sizeof input.list, zeros, input.length, zeros, BYTES, handed, sizeof handed, list_area,
+                    sizeof list_area, area, BYTES, answer, sizeof answer);
+}
+
 static void call_pass(void)
 {
     number = pass(input.en, input.em, input.f, input.list, sizeof input.list, zeros, input.length, zeros, BYTES, choice, sizeof choice,
@@ -128,6 +141,8 @@ static const struct call {
     { "check", call_check, 0, KIB },
     { "compare", call_compare, 0, KIB },
     { "partition", call_partition, 1, KIB },
+    { "estimate", call_estimate, 1, KIB },
+    { "commit", call_commit, 1, KIB },
     { "pass", call_pass, 1, 64 * KIB },
 };
 

@@ -3,9 +3,9 @@
  *   deposit OLD NEW [EN EM F]
  *
  * OLD is the store and NEW the version of document 01; EN, EM and F are the price, 12, 16 and 1024 where they are not given: a new entry has
- * no address, which spares 4 bytes, and F is in 256ths of a disk byte. It finds matches, measures the list found, hands it to pass and to
- * partition, rebuilds NEW from what partition wrote, and compares the two lists written. Costs are printed in disk bytes. Nothing goes to
- * disk.
+ * no address, which spares 4 bytes, and F is in 256ths of a disk byte. It finds matches, measures the list found, hands it to pass for comparison,
+ * and estimates what the least list would come to. Only then are areas taken for that list and its stored block: the estimate's choice is
+ * committed, NEW rebuilt from what was written, and the two lists written are compared. Costs are printed in disk bytes. Nothing goes to disk.
  *
  * In order: errors; files; the list; the finder of matches; the calls; the report. Exit 0 where NEW came back, else 1 and one line.
  */
@@ -199,16 +199,17 @@ struct answer {
     uint32_t entries, stored, whole;
 };
 
-/* What partition and pass write; block has room for the version. */
-struct written {
+/* What partition would come to, and its choice: a byte for each record found. */
+struct estimated {
     struct answer answer;
     uint8_t choice[RECORDS_MOST];
-    uint8_t list[RECORDS_MOST * RECORD_BYTES];
-    uint8_t *block;
 };
 
-typedef uint32_t divide(uint32_t, uint32_t, uint32_t, const uint8_t *, size_t, const uint8_t *, size_t, const uint8_t *, size_t,
-                        uint8_t *, size_t, uint8_t *, size_t, uint8_t *, size_t, uint8_t *, size_t);
+/* What pass and commit write. */
+struct written {
+    struct answer answer;
+    struct bytes list, block;
+};
 
 /* Takes an answer area apart, where the call was accepted. */
 static struct answer answer_of(const char *call, const uint8_t *area)
@@ -226,15 +227,53 @@ static struct answer measure_found(const struct deposit *d)
     return answer_of("measure", area);
 }
 
-/* Partition or pass over the list found. */
-static struct written *divided(const char *name, divide *call, const struct deposit *d)
+/* Areas for a list and its stored block, just as long as pass and commit need them. */
+static struct written take_areas(const struct deposit *d)
+{
+    struct written w = { .list.length = RECORD_BYTES * d->found.records, .block.length = d->version.length };
+    w.list.at = allocate(w.list.length);
+    w.block.at = allocate(w.block.length);
+    return w;
+}
+
+/* What was written has just the bytes that the answer says. */
+static struct written answered(struct written w, struct answer answer)
+{
+    w.answer = answer;
+    w.list.length = RECORD_BYTES * (size_t)answer.entries;
+    w.block.length = answer.stored;
+    return w;
+}
+
+static struct written pass_over(const struct deposit *d)
+{
+    uint8_t area[ANSWER_BYTES], choice[RECORDS_MOST];
+    struct written w = take_areas(d);
+    pass(d->en, d->em, d->f, d->found.bytes, RECORD_BYTES * d->found.records, d->version.at, d->version.length, d->store.at, d->store.length,
+         choice, sizeof choice, w.list.at, w.list.length, w.block.at, w.block.length, area, sizeof area);
+    return answered(w, answer_of("pass", area));
+}
+
+static struct estimated estimate_of(const struct deposit *d)
 {
     uint8_t area[ANSWER_BYTES];
-    struct written *w = allocate(sizeof *w);
-    w->block = allocate(d->version.length);
-    call(d->en, d->em, d->f, d->found.bytes, RECORD_BYTES * d->found.records, d->version.at, d->version.length, d->store.at,
-         d->store.length, w->choice, sizeof w->choice, w->list, sizeof w->list, w->block, d->version.length, area, sizeof area);
-    w->answer = answer_of(name, area);
+    struct estimated e;
+    estimate(d->en, d->em, d->f, d->found.bytes, RECORD_BYTES * d->found.records, d->version.at, d->version.length, d->store.at, d->store.length,
+             e.choice, sizeof e.choice, area, sizeof area);
+    e.answer = answer_of("estimate", area);
+    return e;
+}
+
+/* Commits the estimate's choice, which comes to what was estimated. */
+static struct written commit_estimate(const struct deposit *d, const struct estimated *e)
+{
+    uint8_t area[ANSWER_BYTES];
+    struct written w = take_areas(d);
+    commit(d->en, d->em, d->f, d->found.bytes, RECORD_BYTES * d->found.records, d->version.at, d->version.length, d->store.at, d->store.length,
+           e->choice, d->found.records, w.list.at, w.list.length, w.block.at, w.block.length, area, sizeof area);
+    w = answered(w, answer_of("commit", area));
+    if (w.answer.cost != e->answer.cost || w.answer.entries != e->answer.entries || w.answer.stored != e->answer.stored)
+        fail("what was committed is not what was estimated");
     return w;
 }
 
@@ -243,8 +282,7 @@ static int rebuilds(const struct deposit *d, const struct written *w)
 {
     uint8_t area[ANSWER_BYTES];
     uint8_t *back = allocate(d->version.length);
-    rebuild(w->list, RECORD_BYTES * (size_t)w->answer.entries, w->block, w->answer.stored, d->store.at, d->store.length,
-            back, d->version.length, area, sizeof area);
+    rebuild(w->list.at, w->list.length, w->block.at, w->block.length, d->store.at, d->store.length, back, d->version.length, area, sizeof area);
     const struct answer answer = answer_of("rebuild", area);
     const int same = answer.whole == d->version.length && memcmp(back, d->version.at, d->version.length) == 0;
     free(back);
@@ -255,8 +293,8 @@ static int rebuilds(const struct deposit *d, const struct written *w)
 static int same_version(const struct deposit *d, const struct written *a, const struct written *b)
 {
     uint8_t area[ANSWER_BYTES];
-    compare(a->list, RECORD_BYTES * (size_t)a->answer.entries, b->list, RECORD_BYTES * (size_t)b->answer.entries, a->block, a->answer.stored,
-            b->block, b->answer.stored, d->store.at, d->store.length, area, sizeof area);
+    compare(a->list.at, a->list.length, b->list.at, b->list.length, a->block.at, a->block.length, b->block.at, b->block.length, d->store.at,
+            d->store.length, area, sizeof area);
     return answer_of("compare", area).entries == 1;
 }
 
@@ -279,14 +317,14 @@ static void print_saved(const char *beside, uint64_t cost, uint64_t least)
     printf("saved beside %-19s %32.2f (%.1f %%)\n", beside, in_disk_bytes(cost - least), share);
 }
 
-static void print_report(const struct deposit *d, struct answer found, struct answer passed, struct answer least)
+static void print_estimate(const struct deposit *d, struct answer found, struct answer passed, struct answer least)
 {
     printf("store %zu bytes, version %zu bytes; EN %" PRIu32 ", EM %" PRIu32 ", F %" PRIu32 ": a new entry costs %.2f disk bytes, a match %.2f\n\n",
            d->store.length, d->version.length, d->en, d->em, d->f, in_disk_bytes((uint64_t)d->en * d->f), in_disk_bytes((uint64_t)d->em * d->f));
     printf("%-22s %8s %13s %19s\n", "list", "entries", "stored bytes", "cost in disk bytes");
     print_row("every match kept", found);
     print_row("the pass", passed);
-    print_row("partition", least);
+    print_row("the estimate", least);
     printf("\n");
     print_saved("every match kept", found.cost, least.cost);
     print_saved("the pass", passed.cost, least.cost);
@@ -295,17 +333,19 @@ static void print_report(const struct deposit *d, struct answer found, struct an
 static void make_deposit(const struct deposit *d, const char *name)
 {
     const struct answer found = measure_found(d);
-    struct written *passed = divided("pass", pass, d), *least = divided("partition", partition, d);
-    if (!rebuilds(d, least))
+    const struct written passed = pass_over(d);
+    const struct estimated least = estimate_of(d);
+    print_estimate(d, found, passed.answer, least.answer);
+    const struct written deposited = commit_estimate(d, &least);
+    printf("\ncommitted: %" PRIu32 " records and %" PRIu32 " stored bytes, as estimated\n", deposited.answer.entries, deposited.answer.stored);
+    if (!rebuilds(d, &deposited))
         fail("what was rebuilt differs from %s", name);
-    if (!same_version(d, passed, least))
-        fail("the lists of pass and partition give different versions");
-    print_report(d, found, passed->answer, least->answer);
-    printf("\nrebuilt from %" PRIu32 " records, %" PRIu32 " stored bytes and the store: the same as %s\n", least->answer.entries,
-           least->answer.stored, name);
-    printf("compared with the pass's list, which has %" PRIu32 " records: the same version\n", passed->answer.entries);
-    free(passed->block), free(passed);
-    free(least->block), free(least);
+    printf("rebuilt from the list, the stored bytes and the store: the same as %s\n", name);
+    if (!same_version(d, &passed, &deposited))
+        fail("the lists of pass and commit give different versions");
+    printf("compared with the pass's list, which has %" PRIu32 " records: the same version\n", passed.answer.entries);
+    free(passed.list.at), free(passed.block.at);
+    free(deposited.list.at), free(deposited.block.at);
 }
 
 /* A number in decimal digits, of at most 9 of them. */

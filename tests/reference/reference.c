@@ -1,9 +1,10 @@
 /* reference.c - the calls of document 01, with costs in 256ths of a disk byte and a price for new entries and one for matches (document 02,
- * S-1 and S-2), compare (S-3), runs of matches that go on in the store (S-4), and matches that must be held (S-6), a second time, in plain C.
+ * S-1 and S-2), compare (S-3), runs of matches that go on in the store (S-4), matches that must be held (S-6), and the estimate and the commitment
+ * (S-7), a second time, in plain C.
  *
  * In order: limits; reading and writing of fields; the checks of the inputs; the cost; measure, rebuild and check; compare; runs; the
- * least choice; the pass; what partition and pass write. It shares no line with the library and takes nothing from its header. Where the library
- * prices each record by the one before it, this looks for the runs first, and chooses for them.
+ * least choice; the pass; what a choice comes to; partition and pass; estimate and commit. It shares no line with the library and takes nothing
+ * from its header. Where the library prices each record by the one before it, this looks for the runs first, and chooses for them.
  */
 #include "reference.h"
 
@@ -494,27 +495,36 @@ static uint32_t choose_by_pass(const uint8_t *list, size_t n, const struct price
     return looks;
 }
 
-/* ---- What partition and pass write ---- */
+/* ---- What a choice comes to ---- */
 
-/* What partition and pass are lent. */
+/* What partition, pass, estimate and commit are lent. Estimate has no areas for list and stored block; commit reads a choice, where the others have
+ * an area for it. */
 struct job {
     struct inputs in;
     struct price price;
-    uint8_t *choice, *list_area, *block_area;
+    const uint8_t *choice;
+    uint8_t *list_area, *block_area;
     size_t choice_len, list_area_len, block_area_len;
 };
 
-/* The refusal of a job; else number 0. */
-static struct answer judge(const struct job *job)
+/* The areas that a call has to write to. */
+enum { CHOICE_AREA = 1, LIST_AND_BLOCK_AREA = 2 };
+
+/* Number 9. */
+static int area_too_short(const struct job *job, int areas)
 {
-    const struct inputs *in = &job->in;
-    const uint32_t fault = bad_price(&job->price) ? 1 : bad_length(in);
+    if (areas & CHOICE_AREA && job->choice_len < job->in.list_len / RECORD)
+        return 1;
+    return areas & LIST_AND_BLOCK_AREA && (job->list_area_len < job->in.list_len || job->block_area_len < job->in.version_len);
+}
+
+/* The refusal of a job with these areas; else number 0. */
+static struct answer judge(const struct job *job, int areas)
+{
+    const uint32_t fault = bad_price(&job->price) ? 1 : bad_length(&job->in);
     if (fault != 0)
         return refused(fault, 0);
-    if (job->choice_len < in->list_len / RECORD || job->list_area_len < in->list_len ||
-        job->block_area_len < in->version_len)
-        return refused(9, 0);
-    return walk(in);
+    return area_too_short(job, areas) ? refused(9, 0) : walk(&job->in);
 }
 
 /* The sizes, together, of the records that become one with record *i: the 1s from it on, or the 0s that go on from it; *i goes to their end. */
@@ -526,6 +536,23 @@ static uint32_t joined_size(const struct job *job, size_t n, size_t *i)
         sum += size_of(job->in.list, (*i)++);
     while (*i < n && job->choice[*i] == bit && (bit == 1 || goes_on(job->in.list, *i)));
     return sum;
+}
+
+/* The entries, stored bytes and cost of the choice's list, of which nothing is written. */
+static struct answer count_choice(const struct job *job)
+{
+    const size_t n = job->in.list_len / RECORD;
+    struct answer a = {0};
+    for (size_t i = 0; i < n; a.entries++) {
+        const int stored = job->choice[i];
+        const uint32_t covered = joined_size(job, n, &i);
+        if (stored) {
+            a.new_entries++;
+            a.stored += covered;
+        }
+    }
+    a.cost = list_cost(&job->price, &a);
+    return a;
 }
 
 /* Writes the choice's list and stored block; the answer carries its entries, stored bytes and cost. */
@@ -555,6 +582,8 @@ static struct answer write_choice(const struct job *job)
     return a;
 }
 
+/* ---- Partition and pass ---- */
+
 uint32_t ref_partition(uint32_t en, uint32_t em, uint32_t f,
                        const uint8_t *list, size_t list_len,
                        const uint8_t *version, size_t version_len,
@@ -568,7 +597,7 @@ uint32_t ref_partition(uint32_t en, uint32_t em, uint32_t f,
         return 9;
     const struct job job = { { list, version, store, list_len, version_len, store_len, 1, 1 }, { en, em, f },
                              choice, list_area, block_area, choice_len, list_area_len, block_area_len };
-    struct answer a = judge(&job);
+    struct answer a = judge(&job, CHOICE_AREA | LIST_AND_BLOCK_AREA);
     if (a.number == 0) {
         choose_least(list, list_len / RECORD, &job.price, choice);
         a = write_choice(&job);
@@ -589,11 +618,73 @@ uint32_t ref_pass(uint32_t en, uint32_t em, uint32_t f,
         return 9;
     const struct job job = { { list, version, store, list_len, version_len, store_len, 1, 1 }, { en, em, f },
                              choice, list_area, block_area, choice_len, list_area_len, block_area_len };
-    struct answer a = judge(&job);
+    struct answer a = judge(&job, CHOICE_AREA | LIST_AND_BLOCK_AREA);
     if (a.number == 0) {
         const uint32_t looks = choose_by_pass(list, list_len / RECORD, &job.price, choice);
         a = write_choice(&job);
         a.looks = looks;
     }
+    return give(&a, answer);
+}
+
+/* ---- Estimate and commit ---- */
+
+uint32_t ref_estimate(uint32_t en, uint32_t em, uint32_t f,
+                      const uint8_t *list, size_t list_len,
+                      const uint8_t *version, size_t version_len,
+                      const uint8_t *store, size_t store_len,
+                      uint8_t *choice, size_t choice_len,
+                      uint8_t *answer, size_t answer_len)
+{
+    if (answer_len < ANSWER_LEAST)
+        return 9;
+    const struct job job = { .in = { list, version, store, list_len, version_len, store_len, 1, 1 }, .price = { en, em, f },
+                             .choice = choice, .choice_len = choice_len };
+    struct answer a = judge(&job, CHOICE_AREA);
+    if (a.number == 0) {
+        choose_least(list, list_len / RECORD, &job.price, choice);
+        a = count_choice(&job);
+    }
+    return give(&a, answer);
+}
+
+/* Whether a record may have this byte in a choice. */
+static int may_have(const uint8_t *list, size_t i, uint8_t byte)
+{
+    if (list[RECORD * i] == NEW)
+        return byte == 1;
+    return byte == 0 || (byte == 1 && mark_of(list, i) == 0);
+}
+
+/* Number 12 of a choice for a sound list; else number 0. */
+static struct answer judge_choice(const struct job *job)
+{
+    const size_t n = job->in.list_len / RECORD;
+    if (job->choice_len != n)
+        return refused(12, 0);
+    for (size_t i = 0; i < n; i++)
+        if (!may_have(job->in.list, i, job->choice[i]))
+            return refused(12, i);
+    return refused(0, 0);
+}
+
+uint32_t ref_commit(uint32_t en, uint32_t em, uint32_t f,
+                    const uint8_t *list, size_t list_len,
+                    const uint8_t *version, size_t version_len,
+                    const uint8_t *store, size_t store_len,
+                    const uint8_t *choice, size_t choice_len,
+                    uint8_t *list_area, size_t list_area_len,
+                    uint8_t *block_area, size_t block_area_len,
+                    uint8_t *answer, size_t answer_len)
+{
+    if (answer_len < ANSWER_LEAST)
+        return 9;
+    const struct job job = { { list, version, store, list_len, version_len, store_len, 1, 1 }, { en, em, f },
+                             choice, list_area, block_area, choice_len, list_area_len, block_area_len };
+    struct answer a = judge(&job, LIST_AND_BLOCK_AREA);
+    if (a.number == 0)
+        a = judge_choice(&job);
+    if (a.number == 0)
+        a = write_choice(&job);
     return give(&a, answer);
 }

@@ -1,5 +1,6 @@
 /* reference.h - the calls of document 01, with costs in 256ths of a disk byte and a price for new entries and one for matches (document 02,
- * S-1 and S-2), compare (S-3), runs of matches that go on in the store (S-4), and matches that must be held (S-6), a second time, in plain C.
+ * S-1 and S-2), compare (S-3), runs of matches that go on in the store (S-4), matches that must be held (S-6), and the estimate and the commitment
+ * (S-7), a second time, in plain C.
  *
  * Scope: what the differential test compares the library with, and what the benchmark takes for its baseline. The calls have
  * the signatures of controller.h, with the prefix ref_; areas, answer area, numbers and their order are those of document 01.
@@ -47,6 +48,24 @@ uint32_t ref_partition(uint32_t en, uint32_t em, uint32_t f,
                        uint8_t *list_area, size_t list_area_len,
                        uint8_t *block_area, size_t block_area_len,
                        uint8_t *answer, size_t answer_len);
+
+/* What partition would come to, and its choice. */
+uint32_t ref_estimate(uint32_t en, uint32_t em, uint32_t f,
+                      const uint8_t *list, size_t list_len,
+                      const uint8_t *version, size_t version_len,
+                      const uint8_t *store, size_t store_len,
+                      uint8_t *choice, size_t choice_len,
+                      uint8_t *answer, size_t answer_len);
+
+/* The list and the stored block of a choice, which is read. */
+uint32_t ref_commit(uint32_t en, uint32_t em, uint32_t f,
+                    const uint8_t *list, size_t list_len,
+                    const uint8_t *version, size_t version_len,
+                    const uint8_t *store, size_t store_len,
+                    const uint8_t *choice, size_t choice_len,
+                    uint8_t *list_area, size_t list_area_len,
+                    uint8_t *block_area, size_t block_area_len,
+                    uint8_t *answer, size_t answer_len);
 
 /* The pass's choice, its list and its stored block. */
 uint32_t ref_pass(uint32_t en, uint32_t em, uint32_t f,
