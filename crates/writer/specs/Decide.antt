@@ -1,4 +1,4 @@
--- Partition and pass, document 01: what both answer and write for a choice.
+-- Partition and pass, document 01: what both answer and write for a choice; estimate and commit (document 02, S-7) answer so too.
 -- Assumes nothing.
 use Prim.Native.Nat.{ℕ}
 use mathlib.Core.Path.{_≡_}
