@@ -17,7 +17,7 @@ use Rattle.walk.specs.declared.Totals.{Totals}
 use Rattle.walk.specs.declared.Walked.{Walked}
 use Rattle.walk.specs.declared.Walked.the-variants.{Through, Stopped}
 use Rattle.walk.specs.Walked.{walked}
-use Rattle.walk.proofs.Equality.{not-same}
+use Rattle.words.proofs.Equality.{not-same}
 use Rattle.walk.proofs.Telling.{fine-of-through, stop-of-stopped}
 use Rattle.show.specs.Check.{inputsRuling}
 use Rattle.show.proofs.Accepting.{readable-of-inputs}

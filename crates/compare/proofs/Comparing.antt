@@ -14,7 +14,7 @@ use Rattle.format.specs.Record.{rowAt, recordOf, recordsOf}
 use Rattle.format.specs.Meaning.{sizeOf, whole}
 use Rattle.format.specs.WellFormed.{Readable}
 use Rattle.format.proofs.Rebuilding.{length-rebuilt}
-use Rattle.walk.specs.Checks.{sameBytes}
+use Rattle.words.specs.Same.{sameBytes}
 use Rattle.compare.specs.declared.Cursor.{Cursor}
 use Rattle.compare.specs.Compare.{versionOf}
 use Rattle.compare.specs.Cursor.{left, moved, isPrefix, Comparable}

@@ -7,7 +7,7 @@ use mathlib.Core.Bool.{Bool, true, false, _&&_}
 use mathlib.Core.List.{List, [], _∷_}
 use lib.Dec.{eqb}
 use lib.ListN.{length, take, drop}
-use Rattle.walk.specs.Checks.{sameBytes}
+use Rattle.words.specs.Same.{sameBytes}
 use Rattle.compare.specs.Cursor.{isPrefix}
 
 pub prefix-is-same : (xs ys : List ℕ) → length xs ≡ length ys → isPrefix xs ys ≡ sameBytes xs ys

@@ -10,7 +10,7 @@ use Rattle.format.specs.declared.Answer.the-variants.{Accepted}
 use Rattle.format.specs.Refusal.{_then_, answer, entriesOnly}
 use Rattle.format.specs.Record.{recordsOf}
 use Rattle.format.specs.Meaning.{rebuilt}
-use Rattle.walk.specs.Checks.{sameBytes}
+use Rattle.words.specs.Same.{sameBytes}
 use Rattle.show.specs.Check.{inputsRuling}
 
 -- "A refusal is the one that check gives without a place k, first list first": of each list with its block 2, 3; record by record 4, 5, 6, 7; then 10

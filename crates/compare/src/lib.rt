@@ -88,7 +88,7 @@ fn is_prefix<'a>(
         let p = left_of(a, x, first_block, store);
         let q = left_of(b, y, second_block, store);
         let k = words::shorter(p.len(), q.len());
-        if !walk::same(&p[0..k], &q[0..k]) {
+        if !words::same(&p[0..k], &q[0..k]) {
             return false;
         }
         x = advance(a, x, k);

@@ -20,7 +20,7 @@ use Rattle.format.specs.Record.{recordsOf, encode}
 use Rattle.format.specs.Meaning.{whole, blockOf, rebuilt}
 use Rattle.format.proofs.Rulings.{fine-of-then, fine-of-accepts}
 use Rattle.format.proofs.Encoding.{records-encode}
-use Rattle.walk.proofs.Equality.{same-refl, same-of-eq, not-same, same-sym}
+use Rattle.words.proofs.Equality.{same-refl, same-of-eq, not-same, same-sym}
 use Rattle.price.specs.declared.Price.{Price}
 use Rattle.price.specs.Price.{ratesOf}
 use Rattle.area.proofs.Filling.{front}

@@ -62,13 +62,14 @@ fn bytes_of(record: Record) -> [u8; 12]
     }
 }
 
-// Writes a record over the area from `out` on.
+// Writes a record over the area from `out` on. In one loop: by blocks, the array's bytes would be stored and then read again as words, for which a
+// processor waits.
 fn put_record(area: &mut [u8], out: usize, record: Record)
     requires { ⌜ out + 12 ≤ length (now area) ⌝ }
     ensures { λ _. ⌜ now (area .exit) ≡ pasted out (bytesOf «record») (now (area .entry)) ⌝ }
 {
     let b = bytes_of(record);
-    area::put(area, out, &b);
+    area::put_plain(area, out, &b);
 }
 
 // Where a match ends in the store; in 64 bits, as nothing says here that it lies in the store.

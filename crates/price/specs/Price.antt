@@ -69,3 +69,9 @@ pub record Countable (r : Rates) (list : List ℕ) (s : ℕ) : Type 0 where
   pub rates-fit : RatesFit r
   pub list-most : length list ≤ listMost
   pub stored-is : s ≡ stored (recordsOf list)
+
+-- what pricing counts asks: entries within the limit, of which some are new
+pub record Counted (r : Rates) (entries fresh : ℕ) : Type 0 where
+  pub rates-fit : RatesFit r
+  pub entries-most : entries ≤ 4096
+  pub fresh-most : fresh ≤ entries

@@ -3,11 +3,11 @@
 // Three units: index bytes, disk bytes, and 256ths of a disk byte, in which every cost is. `index_cost` takes index bytes to it by the factor,
 // `disk_cost` takes disk bytes to it by 256.
 ghost use mathlib.Core.Path.{_≡_};
-ghost use Prim.Native.Nat.{_*_, _≤_, _<_};
+ghost use Prim.Native.Nat.{_+_, _*_, _-_, _≤_, _<_};
 ghost use mathlib.Core.List.{[], _∷_};
 ghost use lib.ListN.{length};
 ghost use Rattle.format.specs.Record.{recordsOf};
-ghost use Rattle.price.specs.Price.{priceFits, ratesOf, news, cost, RatesFit, Storing, Tallied, Countable};
+ghost use Rattle.price.specs.Price.{priceFits, ratesOf, news, cost, RatesFit, Storing, Tallied, Countable, Counted};
 use format::Record;
 
 // Bytes of the index.
@@ -114,13 +114,21 @@ fn tally(list: &[u8]) -> u64
     count
 }
 
+// The cost of so many entries, of which so many are new, and of so many stored bytes.
+pub fn cost_by(rates: Rates, entries: u64, fresh: u64, stored: u32) -> Cost
+    requires { ⌜ Counted rates entries fresh ⌝ }
+    ensures { λ r. ⌜ r .0 ≡ rates .fresh .0 * fresh + rates .kept .0 * (entries - fresh) + rates .byte .0 * stored ⌝ }
+{
+    let kept = entries - fresh;
+    let bytes = storing(rates, stored);
+    Cost(rates.fresh.0 * fresh + rates.kept.0 * kept + bytes.0)
+}
+
 // The cost of a list that has so many stored bytes.
 pub fn cost_of(rates: Rates, list: &[u8], stored: u32) -> Cost
     requires { ⌜ Countable rates (now list) stored ⌝ }
     ensures { λ r. ⌜ r .0 ≡ cost rates (recordsOf (now (list .entry))) ⌝ }
 {
     let fresh = tally(list);
-    let kept = ((list.len() / 12) as u64) - fresh;
-    let bytes = storing(rates, stored);
-    Cost(rates.fresh.0 * fresh + rates.kept.0 * kept + bytes.0)
+    cost_by(rates, (list.len() / 12) as u64, fresh, stored)
 }

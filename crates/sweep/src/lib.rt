@@ -63,23 +63,23 @@ fn added(rates: Rates, before: Open, record: Record) -> Cost
 }
 
 // The better way with a record after the one before it: `kept` and `stored` are the least costs of what follows it, after it is kept and after it is
-// stored. A new record is stored, and a held match is kept, whatever they come to.
+// stored. A new record is stored, and a held match is kept, whatever they come to. By the record's kind first, as that asks least of the processor.
 fn better(rates: Rates, before: Open, record: Record, kept: Cost, stored: Cost) -> Way
     requires { ⌜ (RatesFit rates) × (kept .0 ≤ 4503668077367296) × (stored .0 ≤ 4503668077367296) ⌝ }
     ensures { λ w. ⌜ Better rates before «record» (kept .0) (stored .0) w ⌝ }
 {
-    let keep = Cost(added(rates, before, record).0 + kept.0);
-    let store = Cost(added(rates, before, choice::chosen(record, 1)).0 + stored.0);
     match record {
         Record::New(_) => Way {
-            cost: store,
+            cost: Cost(added(rates, before, record).0 + stored.0),
             bit: 1,
         },
-        Record::Match(_, source) => {
+        Record::Match(size, source) => {
+            let keep = Cost(added(rates, before, record).0 + kept.0);
+            let store = Cost(added(rates, before, Record::New(size)).0 + stored.0);
+            if source.held {
+                return Way { cost: keep, bit: 0 };
+            }
             if store.0 < keep.0 {
-                if source.held {
-                    return Way { cost: keep, bit: 0 };
-                }
                 return Way {
                     cost: store,
                     bit: 1,

@@ -18,9 +18,10 @@ use Rattle.format.specs.Meaning.{whole}
 use Rattle.format.specs.WellFormed.{Sized, NotNew, Apart, Inside, Agrees}
 use Rattle.format.proofs.Rulings.{fine-of-then, then-of-fine}
 use Rattle.format.proofs.Rows.{size-record, formed-of-test}
+use Rattle.words.specs.Same.{sameBytes}
 use Rattle.walk.specs.declared.Seen.{Seen}
-use Rattle.walk.specs.Checks.{Check, four, five, six, seven, eight, sameBytes, within, judged, next, walkOn}
-use Rattle.walk.proofs.Equality.{eq-of-same}
+use Rattle.walk.specs.Checks.{Check, four, five, six, seven, eight, within, judged, next, walkOn}
+use Rattle.words.proofs.Equality.{eq-of-same}
 use Rattle.walk.proofs.Judged.{holds-of-fine}
 
 -- one check at every record
@@ -93,15 +94,15 @@ pub whole-of-six : (limit : ℕ) (s : Seen) (rs : List Row) → s .offset ≤ li
 whole-of-six limit s [] k h = omega arith
 whole-of-six limit s (r ∷ rs) k h = omega (arith, size-record r, whole-of-six limit (next s r) rs (leb-true (s .offset + r .size) limit (h .0)) (h .1))
 
-pub inside-of-seven : (st : List ℕ) (s : Seen) (rs : List Row) → Holds (seven st) s rs → Inside st (records rs)
+pub inside-of-seven : (st : List ℕ) (s : Seen) (rs : List Row) → Holds (seven (length st)) s rs → Inside st (records rs)
 inside-of-seven st s [] h = tt
 inside-of-seven st s (r ∷ rs) h = go (isNew r) (h .0) (inside-of-seven st (next s r) rs (h .1))
   where
-    go : (x : Bool) → x || within r st ≡ true → Inside st (records rs) → Inside st (cond x (New (r .size)) (Match (r .size) (sourceOf r)) ∷ records rs)
+    go : (x : Bool) → x || within r (length st) ≡ true → Inside st (records rs) → Inside st (cond x (New (r .size)) (Match (r .size) (sourceOf r)) ∷ records rs)
     go true e k = k
     go false e k = (leb-true (r .address + r .size) (length st) e, k)
 
-pub agrees-of-eight : (v st : List ℕ) (s : Seen) (rs : List Row) → Holds (six (length v)) s rs → Holds (seven st) s rs → Holds (eight v st) s rs
+pub agrees-of-eight : (v st : List ℕ) (s : Seen) (rs : List Row) → Holds (six (length v)) s rs → Holds (seven (length st)) s rs → Holds (eight v st) s rs
     → s .offset + whole (records rs) ≡ length v → Agrees st (records rs) (drop (s .offset) v)
 agrees-of-eight v st s [] f g h e = let k : s .offset ≡ length v = omega arith in rw k (drop-length v)
 agrees-of-eight v st s (r ∷ rs) f g h e =
@@ -113,7 +114,7 @@ agrees-of-eight v st s (r ∷ rs) f g h e =
     long : r .size ≤ length w
     long = omega (arith, length-drop (s .offset) v, leb-true (s .offset + r .size) (length v) (f .0))
 
-    go : (x : Bool) → x || within r st ≡ true → x || sameBytes (take (r .size) w) (take (r .size) (drop (r .address) st)) ≡ true → Agrees st (records rs) (drop (r .size) w)
+    go : (x : Bool) → x || within r (length st) ≡ true → x || sameBytes (take (r .size) w) (take (r .size) (drop (r .address) st)) ≡ true → Agrees st (records rs) (drop (r .size) w)
         → Agrees st (cond x (New (r .size)) (Match (r .size) (sourceOf r)) ∷ records rs) w
     go true a b k = (long, k)
     go false a b k = (long, leb-true (r .address + r .size) (length st) a, eq-of-same (take (r .size) w) (take (r .size) (drop (r .address) st)) b, k)

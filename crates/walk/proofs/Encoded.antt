@@ -21,7 +21,7 @@ use Rattle.format.proofs.Rebuilding.{whole-agrees, inside-agrees}
 use Rattle.walk.specs.declared.Seen.{Seen}
 use Rattle.walk.specs.declared.Scope.the-variants as scope
 use Rattle.walk.specs.Checks.{four, five, six, seven, eight, next, front, checks, walkRuling}
-use Rattle.walk.proofs.Equality.{same-refl}
+use Rattle.words.proofs.Equality.{same-refl}
 use Rattle.walk.proofs.Accepted.{Holds, fine-of-each}
 
 mark-fits : (h : Bool) → leb (markByte h) 1 ≡ true
@@ -53,7 +53,7 @@ eight-of-agrees v st s (New n ∷ l) h = (refl, eight-of-agrees v st (next s (ro
 eight-of-agrees v st s (Match n a ∷ l) h =
     (rw (h .2) (same-refl (take n (drop (a .address) st))), eight-of-agrees v st (next s (rowFor (Match n a))) l (rw (drop-drop n (s .offset) v) at (h .3)))
 
-seven-of-inside : (st : List ℕ) (s : Seen) (l : List Record) → Inside st l → Holds (seven st) s (rowsFor l)
+seven-of-inside : (st : List ℕ) (s : Seen) (l : List Record) → Inside st l → Holds (seven (length st)) s (rowsFor l)
 seven-of-inside st s [] h = tt
 seven-of-inside st s (New n ∷ l) h = (refl, seven-of-inside st (next s (rowFor (New n))) l h)
 seven-of-inside st s (Match n a ∷ l) h = (le-leb (a .address + n) (length st) (h .0), seven-of-inside st (next s (rowFor (Match n a))) l (h .1))

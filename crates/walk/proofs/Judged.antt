@@ -15,10 +15,11 @@ use Rattle.format.specs.Limits.{versionMost}
 use Rattle.format.specs.Refusal.{need, refuse, _then_}
 use Rattle.format.specs.Record.{isNew, wellFormed}
 use Rattle.format.proofs.Rulings.{then-fine, fine-of-then, true-of-need}
+use Rattle.words.specs.Same.{sameBytes}
 use Rattle.walk.specs.declared.Seen.{Seen}
 use Rattle.walk.specs.declared.Scope.{Scope}
 use Rattle.walk.specs.declared.Scope.the-variants as scope
-use Rattle.walk.specs.Checks.{Check, four, five, six, sameBytes, within, limitOf, beyond, checks, judged}
+use Rattle.walk.specs.Checks.{Check, four, five, six, within, limitOf, beyond, checks, judged}
 
 pub limit-most : (x : Scope) (v : List ℕ) → length v ≤ versionMost → limitOf x v ≤ versionMost
 limit-most scope.Sizes v h = omega arith
@@ -32,11 +33,11 @@ holds-of-fine c cs s r e =
 
 module _ (s : Seen) (r : Row) (v st : List ℕ) where
   -- a match, where the call has a store
-  pub judged-store : isNew r ≡ false → (x : Bool) → within r st ≡ x → judged (beyond scope.Store v st) s r ≡ need x OutsideStore (s .place)
+  pub judged-store : isNew r ≡ false → (x : Bool) → within r (length st) ≡ x → judged (beyond scope.Store v st) s r ≡ need x OutsideStore (s .place)
   judged-store e x h = rw (e, h) (then-fine (need x OutsideStore (s .place)))
 
   -- a match, where the call has a version and a store
-  pub judged-version : isNew r ≡ false → (x y : Bool) → within r st ≡ x → sameBytes (take (r .size) (drop (s .offset) v)) (take (r .size) (drop (r .address) st)) ≡ y
+  pub judged-version : isNew r ≡ false → (x y : Bool) → within r (length st) ≡ x → sameBytes (take (r .size) (drop (s .offset) v)) (take (r .size) (drop (r .address) st)) ≡ y
       → judged (beyond scope.Version v st) s r ≡ need x OutsideStore (s .place) then need y Mismatch (s .place)
   judged-version e x y h k = rw (e, h, k) (ap (λ (q : Ruling). need x OutsideStore (s .place) then q) (then-fine (need y Mismatch (s .place))))
 

@@ -1,4 +1,3 @@
-pub mod Equality
 pub mod Judged
 pub mod Walking
 pub mod Telling

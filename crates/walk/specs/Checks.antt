@@ -1,9 +1,9 @@
 -- Checks 4 to 8 of document 01, "Numbers by their cause", made record by record: which a call makes, and what the first that fails says.
 -- Assumes nothing.
 use Prim.Native.Nat.{ℕ, _+_}
-use mathlib.Core.Bool.{Bool, true, false, not, _&&_, _||_, cond}
+use mathlib.Core.Bool.{Bool, false, not, _&&_, _||_, cond}
 use mathlib.Core.List.{List, [], _∷_}
-use lib.Dec.{eqb, leb}
+use lib.Dec.{leb}
 use lib.ListN.{length, take, drop}
 use Rattle.format.specs.declared.Fault.{Fault}
 use Rattle.format.specs.declared.Fault.the-variants.{Malformed, Adjacent, Sizes, OutsideStore, Mismatch}
@@ -13,20 +13,14 @@ use Rattle.format.specs.declared.Ruling.the-variants.{Fine}
 use Rattle.format.specs.Limits.{versionMost}
 use Rattle.format.specs.Refusal.{need, _then_}
 use Rattle.format.specs.Record.{isNew, wellFormed, rowsOf}
+use Rattle.words.specs.Same.{sameBytes}
 use Rattle.walk.specs.declared.Seen.{Seen}
 use Rattle.walk.specs.declared.Scope.{Scope}
 use Rattle.walk.specs.declared.Scope.the-variants as scope
 
--- whether two stretches hold the same bytes
-abbrev pub sameBytes : List ℕ → List ℕ → Bool
-sameBytes [] [] = true
-sameBytes [] (y ∷ ys) = false
-sameBytes (x ∷ xs) [] = false
-sameBytes (x ∷ xs) (y ∷ ys) = eqb x y && sameBytes xs ys
-
--- a match lies in the store
-abbrev pub within : Row → List ℕ → Bool
-within r st = leb (r .address + r .size) (length st)
+-- a match ends no later than at n
+abbrev pub within : Row → ℕ → Bool
+within r n = leb (r .address + r .size) n
 
 -- a test of a record, by what was seen before it, and the fault where it does not hold
 pub record Check : Type 0 where
@@ -42,8 +36,9 @@ five = record { fault = Adjacent; holds = λ s r. not (isNew r && s .fresh) }
 abbrev pub six : ℕ → Check
 six limit = record { fault = Sizes; holds = λ s r. leb (s .offset + r .size) limit }
 
-abbrev pub seven : List ℕ → Check
-seven st = record { fault = OutsideStore; holds = λ s r. isNew r || within r st }
+-- a match lies in a store of n bytes
+abbrev pub seven : ℕ → Check
+seven n = record { fault = OutsideStore; holds = λ s r. isNew r || within r n }
 
 abbrev pub eight : List ℕ → List ℕ → Check
 eight v st = record { fault = Mismatch; holds = λ s r. isNew r || sameBytes (take (r .size) (drop (s .offset) v)) (take (r .size) (drop (r .address) st)) }
@@ -57,8 +52,8 @@ limitOf scope.Version v = length v
 -- a call without a store makes neither 7 nor 8, one without a version no 8
 abbrev pub beyond : Scope → List ℕ → List ℕ → List Check
 beyond scope.Sizes v st = []
-beyond scope.Store v st = seven st ∷ []
-beyond scope.Version v st = seven st ∷ eight v st ∷ []
+beyond scope.Store v st = seven (length st) ∷ []
+beyond scope.Version v st = seven (length st) ∷ eight v st ∷ []
 
 -- "record by record 4, 5, 6, 7, 8"
 abbrev pub checks : Scope → List ℕ → List ℕ → List Check

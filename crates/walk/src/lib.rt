@@ -2,12 +2,13 @@
 //
 // One walk serves every call; its scope says which checks the call has the inputs for.
 ghost use mathlib.Core.Path.{_≡_};
-ghost use mathlib.Core.Bool.{false};
+ghost use mathlib.Core.Bool.{false, _&&_};
 ghost use Prim.Native.Nat.{_+_, _≤_, _<_};
 ghost use lib.ListN.{length, take, drop};
 ghost use Rattle.format.specs.Refusal.{refuse};
 ghost use Rattle.format.specs.Record.{recordsOf, isNew};
-ghost use Rattle.walk.specs.Checks.{sameBytes, within, limitOf, beyond, checks, judged, walkRuling, next};
+ghost use Rattle.words.specs.Same.{sameBytes};
+ghost use Rattle.walk.specs.Checks.{within, limitOf, beyond, checks, judged, walkRuling, next};
 ghost use Rattle.walk.specs.Walked.{Lengths, walked, refusalOf};
 use format::Fault;
 use format::Refusal;
@@ -48,13 +49,6 @@ pub fn stop(fault: Fault, place: u32) -> Ruling
     Ruling::Stop(Refusal { fault, place })
 }
 
-// Whether two stretches hold the same bytes.
-pub fn same(a: &[u8], b: &[u8]) -> bool
-    ensures { λ r. ⌜ r ≡ sameBytes (now (a .entry)) (now (b .entry)) ⌝ }
-{
-    words::same(a, b)
-}
-
 // What the sizes may come to: the version's length, or the greatest length of one.
 fn limit_of(scope: Scope, version: &[u8]) -> u32
     requires { ⌜ length (now version) ≤ 16777216 ⌝ }
@@ -67,12 +61,12 @@ fn limit_of(scope: Scope, version: &[u8]) -> u32
     }
 }
 
-// Check 7: whether a match lies in the store.
-fn in_store(row: Row, store: &[u8]) -> bool
-    ensures { λ r. ⌜ r ≡ within row (now (store .entry)) ⌝ }
+// Check 7: whether a match lies in a store of so many bytes.
+fn in_store(row: Row, reach: usize) -> bool
+    ensures { λ r. ⌜ r ≡ within row reach ⌝ }
 {
     let end = format::index(row.address) + format::index(row.size);
-    end <= store.len()
+    end <= reach
 }
 
 // Check 8: whether a match's bytes in the version, from `at` on, equal those in the store.
@@ -84,7 +78,7 @@ fn equal(row: Row, at: usize, version: &[u8], store: &[u8]) -> bool
     let from = format::index(row.address);
     let end = at + size;
     let to = from + size;
-    same(&version[at..end], &store[from..to])
+    words::same(&version[at..end], &store[from..to])
 }
 
 // Checks 7 and 8 of a match, as far as the scope goes.
@@ -95,13 +89,13 @@ fn judge_match(row: Row, seen: Seen, scope: Scope, version: &[u8], store: &[u8])
     match scope {
         Scope::Sizes => Ruling::Fine,
         Scope::Store => {
-            if in_store(row, store) {
+            if in_store(row, store.len()) {
                 return Ruling::Fine;
             }
             stop(Fault::OutsideStore, seen.place)
         }
         Scope::Version => {
-            if in_store(row, store) {
+            if in_store(row, store.len()) {
                 let at = format::index(seen.offset);
                 if equal(row, at, version, store) {
                     return Ruling::Fine;
@@ -113,6 +107,16 @@ fn judge_match(row: Row, seen: Seen, scope: Scope, version: &[u8], store: &[u8])
     }
 }
 
+// Check 5: whether a new record stands right after a new one.
+fn adjacent(row: Row, seen: Seen) -> bool
+    ensures { λ r. ⌜ r ≡ isNew row && seen .fresh ⌝ }
+{
+    if row.kind == 0 {
+        return seen.fresh;
+    }
+    false
+}
+
 // All checks of one record.
 fn judge(row: Row, seen: Seen, scope: Scope, limit: u32, version: &[u8], store: &[u8]) -> Ruling
     requires { ⌜ (limit ≡ limitOf scope (now version)) × (seen .offset ≤ limit) ⌝ }
@@ -121,17 +125,14 @@ fn judge(row: Row, seen: Seen, scope: Scope, limit: u32, version: &[u8], store: 
     if !format::well_formed(row) {
         return stop(Fault::Malformed, seen.place);
     }
-    if row.kind == 0 {
-        if seen.fresh {
-            return stop(Fault::Adjacent, seen.place);
-        }
-        if limit - seen.offset < row.size {
-            return stop(Fault::Sizes, seen.place);
-        }
-        return Ruling::Fine;
+    if adjacent(row, seen) {
+        return stop(Fault::Adjacent, seen.place);
     }
     if limit - seen.offset < row.size {
         return stop(Fault::Sizes, seen.place);
+    }
+    if row.kind == 0 {
+        return Ruling::Fine;
     }
     judge_match(row, seen, scope, version, store)
 }

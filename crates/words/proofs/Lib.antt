@@ -1,2 +1,2 @@
-pub mod WordLaw
+pub mod Equality
 pub mod Stretches

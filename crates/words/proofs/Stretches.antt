@@ -7,9 +7,9 @@ use mathlib.Core.Bool.{Bool, true, false, not, _&&_}
 use mathlib.Core.List.{List}
 use lib.Dec.{ltb}
 use lib.ListN.{length, take, drop, length-drop, take-append-drop}
-use lib.Seq.{drop-at, length-take-le, take-add, take-all, take-take}
+use lib.Seq.{drop-at, drop-drop, length-take-le, take-add, take-all, take-take}
 use borrow.Author.Tests.{ltb-true, ltb-false, not-true, not-false}
-use Rattle.words.specs.Words.{Tells}
+use Rattle.word.specs.Word.{Tells}
 
 -- t tells whether the first n elements are the same
 abbrev pub TellsFirst : Bool → ℕ → List ℕ → List ℕ → Type 0
@@ -39,6 +39,12 @@ module _ (a b : List ℕ) (i n : ℕ) (ha : i + n ≤ length a) (hb : i + n ≤ 
   again-tells : (t : Bool) → TellsFirst t (i + n) a b → TellsFirst (t && u) (i + n) a b
   again-tells true e = (λ h. e .0 refl, same-piece)
   again-tells false e = e
+
+-- m elements from i on, and the n after them
+pub both-tell : (a b : List ℕ) (i m n : ℕ) (t u : Bool) → i + (m + n) ≤ length a → i + (m + n) ≤ length b
+    → TellsFrom t i m a b → TellsFrom u (i + m) n a b → TellsFrom (t && u) i (m + n) a b
+both-tell a b i m n t u ha hb e f =
+    next-tells (drop i a) (drop i b) m n (simp length-drop (omega arith)) (simp length-drop (omega arith)) u (rw (drop-drop m i a, drop-drop m i b) f) t e
 
 -- lists of one length, in pieces of n: t tells of those before q, or of all where q is at the end or beyond, and u of the piece at q, or of the last
 pub step-tells : (a b : List ℕ) (n q : ℕ) (t u : Bool) → length a ≡ length b → n ≤ length a → (q < length a → q + n ≤ length a)
@@ -92,6 +98,20 @@ module _ {a b : List ℕ} {i : ℕ} (p : Passed a b i) where
     where
       all : (s : List ℕ) → take (length s - i) (drop i s) ≡ drop i s
       all s = take-all (length s - i) (drop i s) (simp length-drop (omega arith))
+
+-- fewer were passed too
+pub fewer : {a b : List ℕ} {i : ℕ} → Passed a b i → (j : ℕ) → j ≤ i → Passed a b j
+fewer {a} {b} {i} p j h = record { within = omega (arith, p .within); even = p .even; same = sym (take-take j i a h) ∙ ap (take j) (p .same) ∙ take-take j i b h }
+
+-- t tells of the first n and u of the last n, and these are all
+pub ends-tell : (a b : List ℕ) (n : ℕ) (t u : Bool) → length a ≡ length b → n ≤ length a → length a ≤ n + n
+    → TellsFirst t n a b → TellsFrom u (length a - n) n a b → Tells (t && u) a b
+ends-tell a b n false u even some most e f = (λ h. absurd (let z : _≡_ {A = ℕ} 0 1 = cc in omega arith), λ h. e .1 (ap (take n) h))
+ends-tell a b n true u even some most e f =
+    let p : Passed a b (length a - n) = fewer (record { within = some; even = even; same = e .0 refl }) (length a - n) (omega arith) in
+    let j : length a - (length a - n) ≡ n = omega arith in
+    let k : length b - (length a - n) ≡ n = omega arith in
+    ended p (rw (j, k) f)
 
 -- lists of two lengths
 pub uneven : (a b : List ℕ) → (length a ≡ length b → ⊥) → Tells false a b

@@ -1,50 +1,12 @@
 // Whether two stretches hold the same bytes, eight bytes together.
 //
-// In order: one word of eight bytes, one byte; blocks of eight words; up to seven words, up to seven bytes; stretches.
-// Not here: which stretches are compared (crates `walk` and `compare`).
+// In order: blocks of eight words; up to seven bytes, two words, four words; whole words; stretches.
+// Not here: one word, one byte (crate `word`); which stretches are compared (crates `walk` and `compare`).
 ghost use mathlib.Core.Path.{_≡_};
 ghost use Prim.Native.Nat.{_+_, _%_, _≤_, _<_, min};
 ghost use lib.ListN.{length, take, drop};
-ghost use Rattle.words.specs.Words.{wordOf, eightAt, Tells};
-
-// A byte as a wider number.
-fn wide(b: u8) -> u64
-    ensures { λ r. ⌜ (r ≡ b) × (r < 256) ⌝ }
-{
-    b as u64
-}
-
-// The word of the eight bytes from i on; the compiler makes one load of it.
-fn word_at(s: &[u8], i: usize) -> u64
-    requires { ⌜ i + 8 ≤ length (now s) ⌝ }
-    ensures { λ r. ⌜ r ≡ wordOf (eightAt (now (s .entry)) i) ⌝ }
-{
-    let low = wide(s[i])
-        + 256 * wide(s[i + 1])
-        + 65536 * wide(s[i + 2])
-        + 16777216 * wide(s[i + 3]);
-    let high = wide(s[i + 4])
-        + 256 * wide(s[i + 5])
-        + 65536 * wide(s[i + 6])
-        + 16777216 * wide(s[i + 7]);
-    low + 4294967296 * high
-}
-
-// Whether the eight bytes from i on are the same, by their words.
-fn same_word(a: &[u8], b: &[u8], i: usize) -> bool
-    requires { ⌜ (i + 8 ≤ length (now a)) × (i + 8 ≤ length (now b)) ⌝ }
-    ensures { λ r. ⌜ Tells r (take 8 (drop i (now (a .entry)))) (take 8 (drop i (now (b .entry)))) ⌝ }
-{
-    word_at(a, i) == word_at(b, i)
-}
-
-// Whether the byte at i is the same.
-fn same_byte(a: &[u8], b: &[u8], i: usize) -> bool
-    requires { ⌜ (i < length (now a)) × (i < length (now b)) ⌝ }
-    ensures { λ r. ⌜ Tells r (take 1 (drop i (now (a .entry)))) (take 1 (drop i (now (b .entry)))) ⌝ }
-{
-    a[i] == b[i]
-}
+ghost use Rattle.word.specs.Word.{Tells};
+ghost use Rattle.words.specs.Same.{sameBytes};
 
 // Whether two blocks of 64 bytes are the same: eight words with no exit between them, so that the compiler takes them together.
 fn same_block(a: &[u8], b: &[u8]) -> bool
@@ -55,7 +17,7 @@ fn same_block(a: &[u8], b: &[u8]) -> bool
     let mut k = 0;
     while k < 8 {
         let at = 8 * k;
-        all = all & same_word(a, b, at);
+        all = all & word::same_word(a, b, at);
         k += 1;
     }
     all
@@ -71,27 +33,8 @@ pub fn shorter(a: usize, b: usize) -> usize
     b
 }
 
-// Whether stretches of up to seven words are the same. Where there are fewer, the last is compared again: on lengths at random seven steps took less
-// time than a loop that ends with the words.
-fn same_words(a: &[u8], b: &[u8]) -> bool
-    requires { ⌜ (length (now a) ≡ length (now b)) × (length (now a) ≤ 56) × (length (now a) % 8 ≡ 0) ⌝ }
-    ensures { λ r. ⌜ Tells r (now (a .entry)) (now (b .entry)) ⌝ }
-{
-    if a.len() == 0 {
-        return true;
-    }
-    let last = a.len() - 8;
-    let mut all = true;
-    let mut k = 0;
-    while k < 7 {
-        let at = shorter(8 * k, last);
-        all = all & same_word(a, b, at);
-        k += 1;
-    }
-    all
-}
-
-// Whether stretches of up to seven bytes are the same, in seven steps too.
+// Whether stretches of up to seven bytes are the same. Where there are fewer, the last is compared again: on lengths at random seven steps took less
+// time than a loop that ends with the bytes.
 fn same_bytes(a: &[u8], b: &[u8]) -> bool
     requires { ⌜ (length (now a) ≡ length (now b)) × (length (now a) ≤ 7) ⌝ }
     ensures { λ r. ⌜ Tells r (now (a .entry)) (now (b .entry)) ⌝ }
@@ -104,38 +47,69 @@ fn same_bytes(a: &[u8], b: &[u8]) -> bool
     let mut k = 0;
     while k < 7 {
         let at = shorter(k, last);
-        all = all & same_byte(a, b, at);
+        all = all & word::same_byte(a, b, at);
         k += 1;
     }
     all
 }
 
-// Whether stretches shorter than a block are the same: words where eight bytes remain, then single bytes.
-fn same_rest(a: &[u8], b: &[u8]) -> bool
-    requires { ⌜ (length (now a) ≡ length (now b)) × (length (now a) < 64) ⌝ }
-    ensures { λ r. ⌜ Tells r (now (a .entry)) (now (b .entry)) ⌝ }
+// Whether the 16 bytes from i on are the same.
+fn same_two(a: &[u8], b: &[u8], i: usize) -> bool
+    requires { ⌜ (i + 16 ≤ length (now a)) × (i + 16 ≤ length (now b)) ⌝ }
+    ensures { λ r. ⌜ Tells r (take 16 (drop i (now (a .entry)))) (take 16 (drop i (now (b .entry)))) ⌝ }
 {
-    let i = 8 * (a.len() / 8);
-    if !same_words(&a[0..i], &b[0..i]) {
-        return false;
-    }
-    same_bytes(&a[i..], &b[i..])
+    word::same_word(a, b, i) & word::same_word(a, b, i + 8)
 }
 
-// Whether two stretches hold the same bytes: block by block, then the rest. Ends at the first block that differs.
-pub fn same(a: &[u8], b: &[u8]) -> bool
+// Whether the 32 bytes from i on are the same.
+fn same_four(a: &[u8], b: &[u8], i: usize) -> bool
+    requires { ⌜ (i + 32 ≤ length (now a)) × (i + 32 ≤ length (now b)) ⌝ }
+    ensures { λ r. ⌜ Tells r (take 32 (drop i (now (a .entry)))) (take 32 (drop i (now (b .entry)))) ⌝ }
+{
+    same_two(a, b, i) & same_two(a, b, i + 16)
+}
+
+// Whether stretches of whole words are the same: block by block, and then the last block, of which some may have been compared. Where there is no block,
+// by the first and the last four or two words, which may overlap. Ends at the first block that differs.
+fn same_words(a: &[u8], b: &[u8]) -> bool
+    requires { ⌜ (length (now a) ≡ length (now b)) × (length (now a) % 8 ≡ 0) ⌝ }
     ensures { λ r. ⌜ Tells r (now (a .entry)) (now (b .entry)) ⌝ }
 {
-    if a.len() != b.len() {
-        return false;
+    let n = a.len();
+    if n == 0 {
+        return true;
     }
+    if n < 16 {
+        return word::same_word(a, b, 0);
+    }
+    if n < 32 {
+        return same_two(a, b, 0) & same_two(a, b, n - 16);
+    }
+    if n < 64 {
+        return same_four(a, b, 0) & same_four(a, b, n - 32);
+    }
+    let last = n - 64;
     let mut i = 0;
-    while 64 <= a.len() - i {
+    while i < last {
         let end = i + 64;
         if !same_block(&a[i..end], &b[i..end]) {
             return false;
         }
         i = end;
     }
-    same_rest(&a[i..], &b[i..])
+    same_block(&a[last..], &b[last..])
+}
+
+// Whether two stretches hold the same bytes: words where eight bytes remain, then single bytes.
+pub fn same(a: &[u8], b: &[u8]) -> bool
+    ensures { λ r. ⌜ r ≡ sameBytes (now (a .entry)) (now (b .entry)) ⌝ }
+{
+    if a.len() != b.len() {
+        return false;
+    }
+    let i = 8 * (a.len() / 8);
+    if !same_words(&a[0..i], &b[0..i]) {
+        return false;
+    }
+    same_bytes(&a[i..], &b[i..])
 }

@@ -3,10 +3,11 @@
 -- Assumes nothing.
 use Prim.Native.Nat.{ℕ, _+_, _-_, _/_, _≤_, _<_}
 use native.Mathlib.Omega.{arith}
-use mathlib.Core.Path.{_≡_, sym, _∙_, ap}
-use mathlib.Core.List.{List, [], _++_, append-nil}
-use lib.ListN.{length, take, drop, length-append, length-drop}
+use mathlib.Core.Path.{_≡_, refl, sym, _∙_, ap}
+use mathlib.Core.List.{List, [], _∷_, _++_, append-nil}
+use lib.ListN.{length, take, drop, getD, length-append, length-drop}
 use lib.Seq.{drop-drop, length-take-le}
+use borrow.Author.Tests.{ne-eqb}
 use Rattle.format.specs.declared.Source.{Source}
 use Rattle.format.specs.declared.Record.{Record}
 use Rattle.format.specs.declared.Record.the-variants.{New, Match}
@@ -15,22 +16,18 @@ use Rattle.format.specs.Record.{from, rowAt, recordOf, records, recordsOf, enco
 use Rattle.format.specs.Meaning.{sizeOf, whole, stored, blockOf}
 use Rattle.format.proofs.Rows.{recordsFrom-next, recordsFrom-none, recordsFrom-all, from-next, length-from, length-recordsOf}
 use Rattle.format.proofs.Rebuilding.{length-block, stored-most}
-use Rattle.format.proofs.Encoding.{encode-append, length-encode}
+use Rattle.format.proofs.Encoding.{encode-append, length-encode, records-encode}
+use Rattle.price.specs.Price.{news}
 use Rattle.area.specs.Area.{pasted}
 use Rattle.area.proofs.Filling.{Filling, filling-start, filling-put, filling-end, filling-out, filling-room}
 use Rattle.join.specs.declared.Open.{Open}
 use Rattle.join.specs.declared.Open.the-variants.{No}
 use Rattle.join.specs.Join.{join, tidy}
 use Rattle.join.specs.Emit.{pending, openSize, flushed, opened}
-use Rattle.join.proofs.Joining.{block-join}
 use Rattle.join.proofs.Emitting.{ahead, ahead-none, ahead-join, open-size}
 use Rattle.choice.specs.Choice.{bitAt, bitsOf, chosen, chosenRecord}
 use Rattle.choice.proofs.Lists.{size-chosen, whole-list, length-list}
-use Rattle.writer.specs.Write.{listIn, blockIn, ListReady, ListWritten, BlockReady, BlockWritten, Writable}
-
--- the list of the choice from record i on, of n
-abbrev pub listFrom : List ℕ → List ℕ → ℕ → ℕ → List Record
-listFrom list choice n i = tidy (chosen (recordsFrom list n i) (from (bitAt choice) i (n - i)))
+use Rattle.writer.specs.Write.{listIn, blockIn, listFrom, RunOf, ListReady, ListWritten, BlockReady, BlockWritten, Writable}
 
 listFrom-all : (list choice : List ℕ) → listIn list choice ≡ listFrom list choice (length list / 12) 0
 listFrom-all list choice =
@@ -45,6 +42,38 @@ module _ (list choice : List ℕ) (n i : ℕ) (r : Record) (is : r ≡ chosenRec
   whole-split =
       ap whole (recordsFrom-next list n i h)
       ∙ ap (λ (k : ℕ). k + whole (recordsFrom list n (i + 1))) (sym (ap sizeOf is ∙ size-chosen (bitAt choice i) (recordOf (rowAt list i))))
+
+-- ---- one entry
+
+-- a new record joins one that a new record joined
+join-news : (m n : ℕ) (l : List Record) → join (New m) (join (New n) l) ≡ join (New (m + n)) l
+join-news m n [] = refl
+join-news m n (New s ∷ l) = ap (λ (k : ℕ). New k ∷ l) (omega arith)
+join-news m n (Match s a ∷ l) = refl
+
+module _ (list choice : List ℕ) (n k : ℕ) (r : Record) (is : r ≡ recordOf (rowAt list k)) (h : k < n) where
+  -- record k is kept
+  pub run-kept : getD choice k 0 ≡ 0 → RunOf list choice n k (record { entry = r; next = k + 1 })
+  run-kept e =
+      let is′ : r ≡ chosenRecord (bitAt choice k) (recordOf (rowAt list k)) = rw e is in
+      record { later = omega arith; within = omega arith; listed = list-split list choice n k r is′ h; sizes = whole-split list choice n k r is′ h }
+
+  -- record k is stored
+  pub run-stored : (s : ℕ) → s ≡ sizeOf r → (getD choice k 0 ≡ 0 → ⊥) → RunOf list choice n k (record { entry = New s; next = k + 1 })
+  run-stored s size e =
+      let is′ : New s ≡ chosenRecord (bitAt choice k) (recordOf (rowAt list k)) = rw (ne-eqb (getD choice k 0) 0 e) (ap New (size ∙ ap sizeOf is)) in
+      record { later = omega arith; within = omega arith; listed = list-split list choice n k (New s) is′ h; sizes = whole-split list choice n k (New s) is′ h }
+
+-- and one more
+pub run-more : {list choice : List ℕ} {n i k m s : ℕ} → RunOf list choice n i (record { entry = New m; next = k }) → RunOf list choice n k (record { entry = New s; next = k + 1 })
+    → RunOf list choice n i (record { entry = New (m + s); next = k + 1 })
+run-more {list} {choice} {n} {i} {k} {m} {s} a b =
+    record {
+      later = omega (arith, a .later);
+      within = b .within;
+      listed = a .listed ∙ ap (join (New m)) (b .listed) ∙ join-news m s (listFrom list choice n (k + 1));
+      sizes = omega (arith, a .sizes, b .sizes);
+    }
 
 -- ---- the list
 
@@ -61,24 +90,24 @@ module _ (list choice area₀ : List ℕ) (ready : ListReady list choice area₀
       }
 
   module _ (area : List ℕ) (n i out : ℕ) (o : Open) (g : Listing list choice area₀ area n i out o) where
-    -- r is record i by its choice byte
-    module _ (r : Record) (is : r ≡ chosenRecord (bitAt choice i) (recordOf (rowAt list i))) (h : i < n) where
-      to-come : Filling (encode (listIn list choice)) area₀ area out (encode (flushed o r) ++ encode (ahead (opened o r) (listFrom list choice n (i + 1))))
+    -- the next entry, r, stands for the records up to j
+    module _ (r : Record) (j : ℕ) (is : RunOf list choice n i (record { entry = r; next = j })) where
+      to-come : Filling (encode (listIn list choice)) area₀ area out (encode (flushed o r) ++ encode (ahead (opened o r) (listFrom list choice n j)))
       to-come =
-          rw (list-split list choice n i r is h, ahead-join o r (listFrom list choice n (i + 1)), encode-append (flushed o r) (ahead (opened o r) (listFrom list choice n (i + 1)))) at (g .filling)
+          rw (is .listed, ahead-join o r (listFrom list choice n j), encode-append (flushed o r) (ahead (opened o r) (listFrom list choice n j))) at (g .filling)
 
       pub listing-room : out + length (encode (flushed o r)) ≤ length area
-      listing-room = omega (arith, filling-room to-come (ready .room), length-append (encode (flushed o r)) (encode (ahead (opened o r) (listFrom list choice n (i + 1)))))
+      listing-room = omega (arith, filling-room to-come (ready .room), length-append (encode (flushed o r)) (encode (ahead (opened o r) (listFrom list choice n j))))
 
       pub listing-size : openSize o + sizeOf r ≤ versionMost
-      listing-size = omega (arith, g .sizes, whole-split list choice n i r is h)
+      listing-size = omega (arith, g .sizes, is .sizes)
 
       pub listing-next : (area′ : List ℕ) (out′ : ℕ) (o′ : Open) → area′ ≡ pasted out (encode (flushed o r)) area → out′ ≡ out + length (encode (flushed o r)) → o′ ≡ opened o r
-          → Listing list choice area₀ area′ n (i + 1) out′ o′
+          → Listing list choice area₀ area′ n j out′ o′
       listing-next area′ out′ o′ e f k =
           record {
-            filling = rw k (filling-put (encode (flushed o r)) (encode (ahead (opened o r) (listFrom list choice n (i + 1)))) to-come (ready .room) area′ out′ e f);
-            sizes = omega (arith, g .sizes, whole-split list choice n i r is h, open-size o r, ap openSize k);
+            filling = rw k (filling-put (encode (flushed o r)) (encode (ahead (opened o r) (listFrom list choice n j))) to-come (ready .room) area′ out′ e f);
+            sizes = omega (arith, g .sizes, is .sizes, open-size o r, ap openSize k);
           }
 
     module _ (h : n ≤ i) where
@@ -98,56 +127,71 @@ module _ (list choice area₀ : List ℕ) (ready : ListReady list choice area₀
 
 -- ---- the stored block
 
-pub record Storing (list choice v block₀ block : List ℕ) (n i at out : ℕ) : Type 0 where
-  pub filling : Filling (blockIn list choice v) block₀ block out (blockOf (listFrom list choice n i) (drop at v))
+pub record Storing (list v block₀ block : List ℕ) (n i at out fresh : ℕ) : Type 0 where
+  pub filling : Filling (blockOf (recordsOf list) v) block₀ block out (blockOf (recordsFrom list n i) (drop at v))
   pub sizes : at + whole (recordsFrom list n i) ≤ length v
+  pub counted : news (recordsOf list) ≡ fresh + news (recordsFrom list n i)
+  pub few : fresh ≤ i
 
-module _ (list choice v block₀ : List ℕ) (ready : BlockReady list choice v block₀) where
-  pub storing-start : Storing list choice v block₀ block₀ (length list / 12) 0 0 0
+module _ (list v block₀ : List ℕ) (ready : BlockReady list v block₀) where
+  pub storing-start : Storing list v block₀ block₀ (length list / 12) 0 0 0 0
   storing-start =
       record {
-        filling = rw (← listFrom-all list choice) (filling-start (blockIn list choice v) block₀);
+        filling = rw (← recordsFrom-all list) (filling-start (blockOf (recordsOf list) v) block₀);
         sizes = omega (arith, ready .in-version, ap whole (recordsFrom-all list));
+        counted = omega (arith, ap news (recordsFrom-all list));
+        few = omega arith;
       }
 
-  module _ (block : List ℕ) (n i at out : ℕ) (g : Storing list choice v block₀ block n i at out) where
-    pub storing-end : n ≤ i → BlockWritten list choice v block₀ block out
+  module _ (block : List ℕ) (n i at out fresh : ℕ) (g : Storing list v block₀ block n i at out fresh) where
+    pub storing-end : n ≤ i → BlockWritten list v block₀ block (record { bytes = out; fresh = fresh })
     storing-end h =
-        let ended : listFrom list choice n i ≡ [] = rw (recordsFrom-none list n i h) in
-        let done : Filling (blockIn list choice v) block₀ block out [] = rw ended at (g .filling) in
-        record { area-after = filling-end done; length-is = filling-out done }
+        let ended : recordsFrom list n i ≡ [] = recordsFrom-none list n i h in
+        let done : Filling (blockOf (recordsOf list) v) block₀ block out [] = rw ended at (g .filling) in
+        record { area-after = filling-end done; length-is = filling-out done; fresh-is = omega (arith, g .counted, ap news ended) }
 
-    module _ (r : Record) (is : r ≡ chosenRecord (bitAt choice i) (recordOf (rowAt list i))) (h : i < n) where
+    module _ (r : Record) (is : r ≡ recordOf (rowAt list i)) (h : i < n) where
+      next : recordsFrom list n i ≡ r ∷ recordsFrom list n (i + 1)
+      next = rw is (recordsFrom-next list n i h)
+
       pub storing-size : at + sizeOf r ≤ length v
-      storing-size = omega (arith, g .sizes, whole-split list choice n i r is h)
+      storing-size = omega (arith, g .sizes, ap whole next)
 
-      pub storing-match : (s : ℕ) (a : Source) (at′ : ℕ) → r ≡ Match s a → at′ ≡ at + sizeOf r → Storing list choice v block₀ block n (i + 1) at′ out
+      pub storing-match : (s : ℕ) (a : Source) (at′ : ℕ) → r ≡ Match s a → at′ ≡ at + sizeOf r → Storing list v block₀ block n (i + 1) at′ out fresh
       storing-match s a at′ m e =
           let f : at′ ≡ at + s = e ∙ ap (λ (x : Record). at + sizeOf x) m in
+          let k : recordsFrom list n i ≡ Match s a ∷ recordsFrom list n (i + 1) = next ∙ ap (λ (x : Record). x ∷ recordsFrom list n (i + 1)) m in
           record {
-            filling = rw (f, ← drop-drop s at v) (rw (list-split list choice n i r is h, m, block-join (Match s a) (listFrom list choice n (i + 1)) (drop at v)) at (g .filling));
-            sizes = omega (arith, g .sizes, whole-split list choice n i r is h);
+            filling = rw (f, ← drop-drop s at v) (rw k at (g .filling));
+            sizes = omega (arith, g .sizes, ap whole k);
+            counted = omega (arith, g .counted, ap news k);
+            few = omega (arith, g .few);
           }
 
       module _ (s : ℕ) (m : r ≡ New s) where
+        next-new : recordsFrom list n i ≡ New s ∷ recordsFrom list n (i + 1)
+        next-new = next ∙ ap (λ (x : Record). x ∷ recordsFrom list n (i + 1)) m
+
         pub part-length : length (take s (drop at v)) ≡ s
         part-length = length-take-le s (drop at v) (omega (arith, length-drop at v, storing-size, ap sizeOf m))
 
-        to-store : Filling (blockIn list choice v) block₀ block out (take s (drop at v) ++ blockOf (listFrom list choice n (i + 1)) (drop (at + s) v))
-        to-store = rw (← drop-drop s at v) (rw (list-split list choice n i r is h, m, block-join (New s) (listFrom list choice n (i + 1)) (drop at v)) at (g .filling))
+        to-store : Filling (blockOf (recordsOf list) v) block₀ block out (take s (drop at v) ++ blockOf (recordsFrom list n (i + 1)) (drop (at + s) v))
+        to-store = rw (← drop-drop s at v) (rw next-new at (g .filling))
 
         pub storing-room : out + s ≤ length block
-        storing-room = omega (arith, filling-room to-store (ready .room), length-append (take s (drop at v)) (blockOf (listFrom list choice n (i + 1)) (drop (at + s) v)), part-length)
+        storing-room = omega (arith, filling-room to-store (ready .room), length-append (take s (drop at v)) (blockOf (recordsFrom list n (i + 1)) (drop (at + s) v)), part-length)
 
         pub storing-new : (block′ p : List ℕ) (at′ out′ : ℕ) → p ≡ take s (drop at v) → block′ ≡ pasted out p block → at′ ≡ at + sizeOf r → out′ ≡ out + length p
-            → Storing list choice v block₀ block′ n (i + 1) at′ out′
+            → Storing list v block₀ block′ n (i + 1) at′ out′ (fresh + 1)
         storing-new block′ p at′ out′ q e f k =
             let f′ : at′ ≡ at + s = f ∙ ap (λ (x : Record). at + sizeOf x) m in
             record {
               filling =
                   rw f′
-                  (filling-put (take s (drop at v)) (blockOf (listFrom list choice n (i + 1)) (drop (at + s) v)) to-store (ready .room) block′ out′ (e ∙ ap (λ (x : List ℕ). pasted out x block) q) (k ∙ ap (λ (x : List ℕ). out + length x) q));
-              sizes = omega (arith, g .sizes, whole-split list choice n i r is h);
+                  (filling-put (take s (drop at v)) (blockOf (recordsFrom list n (i + 1)) (drop (at + s) v)) to-store (ready .room) block′ out′ (e ∙ ap (λ (x : List ℕ). pasted out x block) q) (k ∙ ap (λ (x : List ℕ). out + length x) q));
+              sizes = omega (arith, g .sizes, ap whole next-new);
+              counted = omega (arith, g .counted, ap news next-new);
+              few = omega (arith, g .few);
             }
 
 -- ---- both
@@ -176,5 +220,14 @@ module _ (list choice v area block : List ℕ) (w : Writable list choice v area 
         room = omega (arith, length-encode (listIn list choice), entries-most, w .in-area);
       }
 
-  pub block-ready : BlockReady list choice v block
-  block-ready = record { in-choice = w .in-choice; in-version = w .in-version; room = omega (arith, block-most, w .in-block) }
+  -- the bytes of the written list
+  module _ (written : List ℕ) (is : written ≡ encode (listIn list choice)) where
+    pub written-records : recordsOf written ≡ listIn list choice
+    written-records = ap recordsOf is ∙ records-encode (listIn list choice)
+
+    pub block-ready : BlockReady written v block
+    block-ready =
+        record {
+          in-version = rw written-records (omega (arith, whole-in, w .in-version));
+          room = rw written-records (omega (arith, block-most, w .in-block));
+        }

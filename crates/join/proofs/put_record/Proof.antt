@@ -10,11 +10,11 @@ use Rattle.join.proofs.put_record.Tie as tie
 bytes-of-requires : tie.Need-bytes-of-requires
 bytes-of-requires c κs = search needs
 
-slice-aggregate-put : tie.Need-slice-aggregate-put
-slice-aggregate-put c = search needs
+slice-aggregate-put-plain : tie.Need-slice-aggregate-put-plain
+slice-aggregate-put-plain c = search needs
 
-put-requires : tie.Need-put-requires
-put-requires c κs = search needs
+put-plain-requires : tie.Need-put-plain-requires
+put-plain-requires c κs = search needs
 
 same-length : tie.Need-same-length
 same-length c = search needs
@@ -22,8 +22,8 @@ same-length c = search needs
 returns : tie.Need-returns
 returns c =
     let g = c .before .before .before .before .before .before .before .args in
-    c .before .before .put .ensures ∙ ap (λ (b : List ℕ). pasted (g .out) b (g .area .now)) (c .before .before .before .before .before .bytes-of .ensures)
+    c .before .before .put-plain .ensures ∙ ap (λ (b : List ℕ). pasted (g .out) b (g .area .now)) (c .before .before .before .before .before .bytes-of .ensures)
 
 pub put-record-spec : {M : Type 1} → statement M
 put-record-spec =
-    tie.close (tie.spec bytes-of-requires slice-aggregate-put put-requires same-length returns)
+    tie.close (tie.spec bytes-of-requires slice-aggregate-put-plain put-plain-requires same-length returns)

@@ -1,109 +1,87 @@
--- `words::same` meets its contract. Invariant: `Passed`, the blocks so far are the same. Measure: the bytes left. Assumes nothing.
-use Prim.Native.Nat.{_+_, _-_}
+-- `words::same` meets its contract: what the words tell, and then the bytes; and what tells of equality is `sameBytes`. Assumes nothing.
+use Prim.Native.Nat.{_*_, _/_}
 use native.Mathlib.Omega.{arith}
+use mathlib.Core.Bool.{false}
 use lib.ListN.{length}
 use borrow.Author.Needs.{needs}
-use Rattle.words.proofs.Stretches.{Passed, started, stopped, went-on, ended, uneven}
+use Rattle.words.proofs.Equality.{same-is}
+use Rattle.words.proofs.Stretches.{started, stopped, went-on, ended, uneven}
 use Rattle.words.proofs.same.Statement.{statement}
 use Rattle.words.proofs.same.Tie as tie
 
-abbrev Inv-loop : tie.InvT-loop
-Inv-loop a b i₀ i = Passed a b i
+returns : tie.Need-returns
+returns c = same-is _ _ false (uneven (c .before .before .before .args .a .now) (c .before .before .before .args .b .now) (c .if1 .taken))
 
-abbrev μ-loop : tie.MeasureT-loop
-μ-loop a b i₀ i = length a - i
+mul-i : tie.Need-mul-i
+mul-i c = search needs
 
-returns : tie.Need-returns Inv-loop μ-loop
-returns c = uneven (c .before .before .before .args .a .now) (c .before .before .before .args .b .now) (c .if1 .taken)
+sub-same-words : tie.Need-sub-same-words
+sub-same-words c = search needs
 
-loop-holds : tie.Need-loop-holds Inv-loop μ-loop
-loop-holds c = started (c .before .before .before .args .a .now) (c .before .before .before .args .b .now) (c .if1 .left)
+part-same-words-start : tie.Need-part-same-words-start
+part-same-words-start c = search needs
 
-sub-loop : tie.Need-sub-loop Inv-loop μ-loop
-sub-loop c = omega arith
+part-same-words-end : tie.Need-part-same-words-end
+part-same-words-end c = search needs
 
-add-end : tie.Need-add-end Inv-loop μ-loop
-add-end c = omega arith
+sub-same-words-2 : tie.Need-sub-same-words-2
+sub-same-words-2 c = search needs
 
-sub-same-block : tie.Need-sub-same-block Inv-loop μ-loop
-sub-same-block c = omega arith
+part-same-words-start-2 : tie.Need-part-same-words-start-2
+part-same-words-start-2 c = search needs
 
-part-same-block-start : tie.Need-part-same-block-start Inv-loop μ-loop
-part-same-block-start c = omega arith
+part-same-words-end-2 : tie.Need-part-same-words-end-2
+part-same-words-end-2 c = search needs
 
-part-same-block-end : tie.Need-part-same-block-end Inv-loop μ-loop
-part-same-block-end c = omega arith
+same-words-requires : tie.Need-same-words-requires
+same-words-requires c κs = search needs
 
-sub-same-block-2 : tie.Need-sub-same-block-2 Inv-loop μ-loop
-sub-same-block-2 c = omega arith
+returns-2 : tie.Need-returns-2
+returns-2 c = let g = (c .before .before .before .before .before .before .before .args) in same-is _ _ false (stopped (started (g .a .now) (g .b .now) (omega arith)) (8 * (length (g .a .now) / 8)) (c .before .same-words .ensures) (c .if2 .taken))
 
-part-same-block-start-2 : tie.Need-part-same-block-start-2 Inv-loop μ-loop
-part-same-block-start-2 c = omega arith
+sub-same-bytes : tie.Need-sub-same-bytes
+sub-same-bytes c = search needs
 
-part-same-block-end-2 : tie.Need-part-same-block-end-2 Inv-loop μ-loop
-part-same-block-end-2 c = omega arith
+part-same-bytes-start : tie.Need-part-same-bytes-start
+part-same-bytes-start c = search needs
 
-same-block-requires : tie.Need-same-block-requires Inv-loop μ-loop
-same-block-requires c κs = search needs
+part-same-bytes-end : tie.Need-part-same-bytes-end
+part-same-bytes-end c = search needs
 
-returns-2 : tie.Need-returns-2 Inv-loop μ-loop
-returns-2 c = stopped (c .before .before .before .before .before .loop .inv) (c .before .before .before .before .before .loop .i + 64) (c .before .same-block .ensures) (c .if2 .taken)
+sub-same-bytes-2 : tie.Need-sub-same-bytes-2
+sub-same-bytes-2 c = search needs
 
-loop-less : tie.Need-loop-less Inv-loop μ-loop
-loop-less c = omega arith
+part-same-bytes-start-2 : tie.Need-part-same-bytes-start-2
+part-same-bytes-start-2 c = search needs
 
-loop-again : tie.Need-loop-again Inv-loop μ-loop
-loop-again c = went-on (c .before .before .before .before .before .loop .inv) (c .before .before .before .before .before .loop .i + 64) (omega arith) (omega arith) (c .before .same-block .ensures) (c .if2 .left)
+part-same-bytes-end-2 : tie.Need-part-same-bytes-end-2
+part-same-bytes-end-2 c = search needs
 
-sub-same-rest : tie.Need-sub-same-rest Inv-loop μ-loop
-sub-same-rest c = omega arith
+same-bytes-requires : tie.Need-same-bytes-requires
+same-bytes-requires c κs = search needs
 
-part-same-rest-start : tie.Need-part-same-rest-start Inv-loop μ-loop
-part-same-rest-start c = omega arith
-
-part-same-rest-end : tie.Need-part-same-rest-end Inv-loop μ-loop
-part-same-rest-end c = omega arith
-
-sub-same-rest-2 : tie.Need-sub-same-rest-2 Inv-loop μ-loop
-sub-same-rest-2 c = omega arith
-
-part-same-rest-start-2 : tie.Need-part-same-rest-start-2 Inv-loop μ-loop
-part-same-rest-start-2 c = omega arith
-
-part-same-rest-end-2 : tie.Need-part-same-rest-end-2 Inv-loop μ-loop
-part-same-rest-end-2 c = omega arith
-
-same-rest-requires : tie.Need-same-rest-requires Inv-loop μ-loop
-same-rest-requires c κs = search needs
-
-returns-3 : tie.Need-returns-3 Inv-loop μ-loop
-returns-3 c = ended (c .before .before .before .before .loop .inv) (c .same-rest .ensures)
+returns-3 : tie.Need-returns-3
+returns-3 c = let g = (c .before .before .before .before .before .before .before .before .before .before .args) in same-is _ _ (c .same-bytes .result) (ended (went-on (started (g .a .now) (g .b .now) (omega arith)) (8 * (length (g .a .now) / 8)) (omega arith) (omega arith) (c .before .before .before .before .same-words .ensures) (c .before .before .before .if2 .left)) (c .same-bytes .ensures))
 
 pub same-spec : {M : Type 1} → statement M
 same-spec =
     tie.close
     (tie.spec
-    Inv-loop
-    μ-loop
     returns
-    loop-holds
-    sub-loop
-    add-end
-    sub-same-block
-    part-same-block-start
-    part-same-block-end
-    sub-same-block-2
-    part-same-block-start-2
-    part-same-block-end-2
-    same-block-requires
+    mul-i
+    sub-same-words
+    part-same-words-start
+    part-same-words-end
+    sub-same-words-2
+    part-same-words-start-2
+    part-same-words-end-2
+    same-words-requires
     returns-2
-    loop-less
-    loop-again
-    sub-same-rest
-    part-same-rest-start
-    part-same-rest-end
-    sub-same-rest-2
-    part-same-rest-start-2
-    part-same-rest-end-2
-    same-rest-requires
+    sub-same-bytes
+    part-same-bytes-start
+    part-same-bytes-end
+    sub-same-bytes-2
+    part-same-bytes-start-2
+    part-same-bytes-end-2
+    same-bytes-requires
     returns-3)

@@ -1,12 +1,10 @@
--- `writer::write_block` meets its contract. The invariant: `Storing` says what stands in the block before record i, and what is to come. The measure is
--- the number of records left. Assumes nothing.
+-- `writer::write_block` meets its contract. The invariant: `Storing` says what stands in the block before record i, what is to come, and how many
+-- records were new. The measure is the number of records left. Assumes nothing.
 use Prim.Native.Nat.{ℕ, _+_, _-_, _/_, _≤_}
 use native.Mathlib.Omega.{arith}
 use mathlib.Core.Path.{_≡_, refl, _∙_, ap}
-use lib.ListN.{length}
+use lib.ListN.{length, take, drop}
 use Rattle.format.specs.Record.{rowAt, recordOf}
-use Rattle.choice.specs.Choice.{bitAt, chosenRecord}
-use lib.ListN.{take, drop}
 use Rattle.format.specs.Meaning.{sizeOf}
 use Rattle.writer.proofs.Writing.{Storing, storing-start, storing-end, storing-size, storing-match, part-length, storing-room, storing-new}
 use borrow.Author.Needs.{needs}
@@ -14,24 +12,18 @@ use Rattle.writer.proofs.write_block.Statement.{statement}
 use Rattle.writer.proofs.write_block.Tie as tie
 
 abbrev Inv-loop : tie.InvT-loop
-Inv-loop list choice version block₀ n at₀ out₀ i₀ block at out i = (i ≤ n) × Storing list choice version block₀ block n i at out
+Inv-loop list version block₀ n at₀ out₀ fresh₀ i₀ block at out fresh i = (i ≤ n) × Storing list version block₀ block n i at out fresh
 
 abbrev μ-loop : tie.MeasureT-loop
-μ-loop list choice version block₀ n at₀ out₀ i₀ block at out i = n - i
+μ-loop list version block₀ n at₀ out₀ fresh₀ i₀ block at out fresh i = n - i
 
 loop-holds : tie.Need-loop-holds Inv-loop μ-loop
 loop-holds c =
-    let g = c .before .before .before .before .args in
-    (omega arith, storing-start (g .list .now) (g .choice .now) (g .version .now) (g .block-area .now) (c .before .before .before .before .pre))
+    let g = (c .before .before .before .args) in
+    (omega arith, storing-start (g .list .now) (g .version .now) (g .block-area .now) (c .before .before .before .pre))
 
 record-at-requires : tie.Need-record-at-requires Inv-loop μ-loop
 record-at-requires c κs = search needs
-
-shared-slice-read-chosen : tie.Need-shared-slice-read-chosen Inv-loop μ-loop
-shared-slice-read-chosen c = omega (arith, c .before .before .before .before .before .before .before .before .pre .in-choice)
-
-chosen-requires : tie.Need-chosen-requires Inv-loop μ-loop
-chosen-requires c κs = search needs
 
 size-of-requires : tie.Need-size-of-requires Inv-loop μ-loop
 size-of-requires c κs = search needs
@@ -41,12 +33,11 @@ index-requires c κs = search needs
 
 add-at : tie.Need-add-at Inv-loop μ-loop
 add-at c =
-    let g = c .before .before .before .before .before .before .before .before .before .before .before .args in
-    let l = c .before .before .before .before .before .before .loop in
+    let g = (c .before .before .before .before .before .before .before .before .args) in
+    let l = (c .before .before .before .before .loop) in
     let n = length (g .list .now) / 12 in
-    let is : c .before .before .chosen .result ≡ chosenRecord (bitAt (g .choice .now) (l .i)) (recordOf (rowAt (g .list .now) (l .i))) = c .before .before .chosen .ensures ∙ ap (chosenRecord (bitAt (g .choice .now) (l .i))) (c .before .before .before .before .record-at .ensures) in
-    let size : c .index .result ≡ sizeOf (c .before .before .chosen .result) = c .index .ensures .0 ∙ c .before .size-of .ensures in
-    omega (arith, size, storing-size (g .list .now) (g .choice .now) (g .version .now) (g .block-area .now) (c .before .before .before .before .before .before .before .before .before .before .before .pre) (l .block-area) n (l .i) (l .at) (l .out) (l .inv .1) (c .before .before .chosen .result) is (omega arith))
+    let size : c .index .result ≡ sizeOf (c .before .before .record-at .result) = c .index .ensures .0 ∙ c .before .size-of .ensures in
+    omega (arith, size, storing-size (g .list .now) (g .version .now) (g .block-area .now) (c .before .before .before .before .before .before .before .before .pre) (l .block-area) n (l .i) (l .at) (l .out) (l .fresh) (l .inv .1) (c .before .before .record-at .result) (c .before .before .record-at .ensures) (omega arith))
 
 add-i : tie.Need-add-i Inv-loop μ-loop
 add-i c = search needs
@@ -62,48 +53,47 @@ part-part-start c = search needs
 
 part-part-end : tie.Need-part-part-end Inv-loop μ-loop
 part-part-end c =
-    let g = c .before .before .before .before .before .before .before .before .before .before .before .before .before .args in
-    let l = c .before .before .before .before .before .before .before .before .loop in
+    let g = (c .before .before .before .before .before .before .before .before .before .before .args) in
+    let l = (c .before .before .before .before .before .before .loop) in
     let n = length (g .list .now) / 12 in
-    let is : c .before .before .before .before .chosen .result ≡ chosenRecord (bitAt (g .choice .now) (l .i)) (recordOf (rowAt (g .list .now) (l .i))) = c .before .before .before .before .chosen .ensures ∙ ap (chosenRecord (bitAt (g .choice .now) (l .i))) (c .before .before .before .before .before .before .record-at .ensures) in
-    let size : c .before .before .index .result ≡ sizeOf (c .before .before .before .before .chosen .result) = c .before .before .index .ensures .0 ∙ c .before .before .before .size-of .ensures in
-    omega (arith, size, storing-size (g .list .now) (g .choice .now) (g .version .now) (g .block-area .now) (c .before .before .before .before .before .before .before .before .before .before .before .before .before .pre) (l .block-area) n (l .i) (l .at) (l .out) (l .inv .1) (c .before .before .before .before .chosen .result) is (omega arith))
+    let size : c .before .before .index .result ≡ sizeOf (c .before .before .before .before .record-at .result) = c .before .before .index .ensures .0 ∙ c .before .before .before .size-of .ensures in
+    omega (arith, size, storing-size (g .list .now) (g .version .now) (g .block-area .now) (c .before .before .before .before .before .before .before .before .before .before .pre) (l .block-area) n (l .i) (l .at) (l .out) (l .fresh) (l .inv .1) (c .before .before .before .before .record-at .result) (c .before .before .before .before .record-at .ensures) (omega arith))
 
 put-requires : tie.Need-put-requires Inv-loop μ-loop
 put-requires c κs =
-    let g = c .before .before .before .before .before .before .before .before .before .before .before .before .before .before .before .args in
-    let l = c .before .before .before .before .before .before .before .before .before .before .loop in
+    let g = (c .before .before .before .before .before .before .before .before .before .before .before .before .args) in
+    let l = (c .before .before .before .before .before .before .before .before .loop) in
     let n = length (g .list .now) / 12 in
-    let is : c .before .before .before .before .before .before .chosen .result ≡ chosenRecord (bitAt (g .choice .now) (l .i)) (recordOf (rowAt (g .list .now) (l .i))) = c .before .before .before .before .before .before .chosen .ensures ∙ ap (chosenRecord (bitAt (g .choice .now) (l .i))) (c .before .before .before .before .before .before .before .before .record-at .ensures) in
-    let size : c .before .before .before .before .index .result ≡ sizeOf (c .before .before .before .before .before .before .chosen .result) = c .before .before .before .before .index .ensures .0 ∙ c .before .before .before .before .before .size-of .ensures in
+    let size : c .before .before .before .before .index .result ≡ sizeOf (c .before .before .before .before .before .before .record-at .result) = c .before .before .before .before .index .ensures .0 ∙ c .before .before .before .before .before .size-of .ensures in
     let more : l .at + c .before .before .before .before .index .result - l .at ≡ c .before .before .enum-told .given .0 .0 = omega (arith, size, ap sizeOf (c .before .before .enum-told .given .1)) in
     let part : take (l .at + c .before .before .before .before .index .result - l .at) (drop (l .at) (g .version .now)) ≡ take (c .before .before .enum-told .given .0 .0) (drop (l .at) (g .version .now)) = ap (λ (k : ℕ). take k (drop (l .at) (g .version .now))) more in
-    omega (arith, storing-room (g .list .now) (g .choice .now) (g .version .now) (g .block-area .now) (c .before .before .before .before .before .before .before .before .before .before .before .before .before .before .before .pre) (l .block-area) n (l .i) (l .at) (l .out) (l .inv .1) (c .before .before .before .before .before .before .chosen .result) is (omega arith) (c .before .before .enum-told .given .0 .0) (c .before .before .enum-told .given .1), ap length part, part-length (g .list .now) (g .choice .now) (g .version .now) (g .block-area .now) (c .before .before .before .before .before .before .before .before .before .before .before .before .before .before .before .pre) (l .block-area) n (l .i) (l .at) (l .out) (l .inv .1) (c .before .before .before .before .before .before .chosen .result) is (omega arith) (c .before .before .enum-told .given .0 .0) (c .before .before .enum-told .given .1))
+    omega (arith, storing-room (g .list .now) (g .version .now) (g .block-area .now) (c .before .before .before .before .before .before .before .before .before .before .before .before .pre) (l .block-area) n (l .i) (l .at) (l .out) (l .fresh) (l .inv .1) (c .before .before .before .before .before .before .record-at .result) (c .before .before .before .before .before .before .record-at .ensures) (omega arith) (c .before .before .enum-told .given .0 .0) (c .before .before .enum-told .given .1), ap length part, part-length (g .list .now) (g .version .now) (g .block-area .now) (c .before .before .before .before .before .before .before .before .before .before .before .before .pre) (l .block-area) n (l .i) (l .at) (l .out) (l .fresh) (l .inv .1) (c .before .before .before .before .before .before .record-at .result) (c .before .before .before .before .before .before .record-at .ensures) (omega arith) (c .before .before .enum-told .given .0 .0) (c .before .before .enum-told .given .1))
 
 add-out : tie.Need-add-out Inv-loop μ-loop
 add-out c =
-    let g = c .before .before .before .before .before .before .before .before .before .before .before .before .before .before .before .before .before .before .args in
-    let l = c .before .before .before .before .before .before .before .before .before .before .before .before .before .loop in
+    let g = (c .before .before .before .before .before .before .before .before .before .before .before .before .before .before .before .args) in
+    let l = (c .before .before .before .before .before .before .before .before .before .before .before .loop) in
     let n = length (g .list .now) / 12 in
-    let is : c .before .before .before .before .before .before .before .before .before .chosen .result ≡ chosenRecord (bitAt (g .choice .now) (l .i)) (recordOf (rowAt (g .list .now) (l .i))) = c .before .before .before .before .before .before .before .before .before .chosen .ensures ∙ ap (chosenRecord (bitAt (g .choice .now) (l .i))) (c .before .before .before .before .before .before .before .before .before .before .before .record-at .ensures) in
-    let size : c .before .before .before .before .before .before .before .index .result ≡ sizeOf (c .before .before .before .before .before .before .before .before .before .chosen .result) = c .before .before .before .before .before .before .before .index .ensures .0 ∙ c .before .before .before .before .before .before .before .before .size-of .ensures in
+    let size : c .before .before .before .before .before .before .before .index .result ≡ sizeOf (c .before .before .before .before .before .before .before .before .before .record-at .result) = c .before .before .before .before .before .before .before .index .ensures .0 ∙ c .before .before .before .before .before .before .before .before .size-of .ensures in
     let more : l .at + c .before .before .before .before .before .before .before .index .result - l .at ≡ c .before .before .before .before .before .enum-told .given .0 .0 = omega (arith, size, ap sizeOf (c .before .before .before .before .before .enum-told .given .1)) in
     let part : take (l .at + c .before .before .before .before .before .before .before .index .result - l .at) (drop (l .at) (g .version .now)) ≡ take (c .before .before .before .before .before .enum-told .given .0 .0) (drop (l .at) (g .version .now)) = ap (λ (k : ℕ). take k (drop (l .at) (g .version .now))) more in
-    omega (arith, storing-room (g .list .now) (g .choice .now) (g .version .now) (g .block-area .now) (c .before .before .before .before .before .before .before .before .before .before .before .before .before .before .before .before .before .before .pre) (l .block-area) n (l .i) (l .at) (l .out) (l .inv .1) (c .before .before .before .before .before .before .before .before .before .chosen .result) is (omega arith) (c .before .before .before .before .before .enum-told .given .0 .0) (c .before .before .before .before .before .enum-told .given .1), ap length part, part-length (g .list .now) (g .choice .now) (g .version .now) (g .block-area .now) (c .before .before .before .before .before .before .before .before .before .before .before .before .before .before .before .before .before .before .pre) (l .block-area) n (l .i) (l .at) (l .out) (l .inv .1) (c .before .before .before .before .before .before .before .before .before .chosen .result) is (omega arith) (c .before .before .before .before .before .enum-told .given .0 .0) (c .before .before .before .before .before .enum-told .given .1), l .inv .1 .filling .same, c .before .before .before .before .before .before .before .before .before .before .before .before .before .before .before .before .before .before .good)
+    omega (arith, storing-room (g .list .now) (g .version .now) (g .block-area .now) (c .before .before .before .before .before .before .before .before .before .before .before .before .before .before .before .pre) (l .block-area) n (l .i) (l .at) (l .out) (l .fresh) (l .inv .1) (c .before .before .before .before .before .before .before .before .before .record-at .result) (c .before .before .before .before .before .before .before .before .before .record-at .ensures) (omega arith) (c .before .before .before .before .before .enum-told .given .0 .0) (c .before .before .before .before .before .enum-told .given .1), ap length part, part-length (g .list .now) (g .version .now) (g .block-area .now) (c .before .before .before .before .before .before .before .before .before .before .before .before .before .before .before .pre) (l .block-area) n (l .i) (l .at) (l .out) (l .fresh) (l .inv .1) (c .before .before .before .before .before .before .before .before .before .record-at .result) (c .before .before .before .before .before .before .before .before .before .record-at .ensures) (omega arith) (c .before .before .before .before .before .enum-told .given .0 .0) (c .before .before .before .before .before .enum-told .given .1), l .inv .1 .filling .same, (c .before .before .before .before .before .before .before .before .before .before .before .before .before .before .before .good))
+
+add-fresh : tie.Need-add-fresh Inv-loop μ-loop
+add-fresh c = omega (arith, c .before .before .before .before .before .before .before .before .before .before .before .loop .inv .1 .few)
 
 loop-less : tie.Need-loop-less Inv-loop μ-loop
 loop-less c = search needs
 
 loop-again : tie.Need-loop-again Inv-loop μ-loop
 loop-again c =
-    let g = c .before .before .before .before .before .before .before .before .before .before .before .before .before .before .before .before .before .before .args in
-    let l = c .before .before .before .before .before .before .before .before .before .before .before .before .before .loop in
+    let g = (c .before .before .before .before .before .before .before .before .before .before .before .before .before .before .before .args) in
+    let l = (c .before .before .before .before .before .before .before .before .before .before .before .loop) in
     let n = length (g .list .now) / 12 in
-    let is : c .before .before .before .before .before .before .before .before .before .chosen .result ≡ chosenRecord (bitAt (g .choice .now) (l .i)) (recordOf (rowAt (g .list .now) (l .i))) = c .before .before .before .before .before .before .before .before .before .chosen .ensures ∙ ap (chosenRecord (bitAt (g .choice .now) (l .i))) (c .before .before .before .before .before .before .before .before .before .before .before .record-at .ensures) in
-    let size : c .before .before .before .before .before .before .before .index .result ≡ sizeOf (c .before .before .before .before .before .before .before .before .before .chosen .result) = c .before .before .before .before .before .before .before .index .ensures .0 ∙ c .before .before .before .before .before .before .before .before .size-of .ensures in
+    let size : c .before .before .before .before .before .before .before .index .result ≡ sizeOf (c .before .before .before .before .before .before .before .before .before .record-at .result) = c .before .before .before .before .before .before .before .index .ensures .0 ∙ c .before .before .before .before .before .before .before .before .size-of .ensures in
     let more : l .at + c .before .before .before .before .before .before .before .index .result - l .at ≡ c .before .before .before .before .before .enum-told .given .0 .0 = omega (arith, size, ap sizeOf (c .before .before .before .before .before .enum-told .given .1)) in
     let part : take (l .at + c .before .before .before .before .before .before .before .index .result - l .at) (drop (l .at) (g .version .now)) ≡ take (c .before .before .before .before .before .enum-told .given .0 .0) (drop (l .at) (g .version .now)) = ap (λ (k : ℕ). take k (drop (l .at) (g .version .now))) more in
-    (omega arith, storing-new (g .list .now) (g .choice .now) (g .version .now) (g .block-area .now) (c .before .before .before .before .before .before .before .before .before .before .before .before .before .before .before .before .before .before .pre) (l .block-area) n (l .i) (l .at) (l .out) (l .inv .1) (c .before .before .before .before .before .before .before .before .before .chosen .result) is (omega arith) (c .before .before .before .before .before .enum-told .given .0 .0) (c .before .before .before .before .before .enum-told .given .1) _ _ _ _ part (c .before .before .put .ensures) (ap (λ (k : ℕ). l .at + k) size) refl)
+    (omega arith, storing-new (g .list .now) (g .version .now) (g .block-area .now) (c .before .before .before .before .before .before .before .before .before .before .before .before .before .before .before .pre) (l .block-area) n (l .i) (l .at) (l .out) (l .fresh) (l .inv .1) (c .before .before .before .before .before .before .before .before .before .record-at .result) (c .before .before .before .before .before .before .before .before .before .record-at .ensures) (omega arith) (c .before .before .before .before .before .enum-told .given .0 .0) (c .before .before .before .before .before .enum-told .given .1) _ _ _ _ part (c .before .before .put .ensures) (ap (λ (k : ℕ). l .at + k) size) refl)
 
 enum-told-2 : tie.Need-enum-told-2 Inv-loop μ-loop
 enum-told-2 c = search needs
@@ -113,22 +103,21 @@ loop-less-2 c = search needs
 
 loop-again-2 : tie.Need-loop-again-2 Inv-loop μ-loop
 loop-again-2 c =
-    let g = c .before .before .before .before .before .before .before .before .before .before .before .before .before .args in
-    let l = c .before .before .before .before .before .before .before .before .loop in
+    let g = (c .before .before .before .before .before .before .before .before .before .before .args) in
+    let l = (c .before .before .before .before .before .before .loop) in
     let n = length (g .list .now) / 12 in
-    let is : c .before .before .before .before .chosen .result ≡ chosenRecord (bitAt (g .choice .now) (l .i)) (recordOf (rowAt (g .list .now) (l .i))) = c .before .before .before .before .chosen .ensures ∙ ap (chosenRecord (bitAt (g .choice .now) (l .i))) (c .before .before .before .before .before .before .record-at .ensures) in
-    let size : c .before .before .index .result ≡ sizeOf (c .before .before .before .before .chosen .result) = c .before .before .index .ensures .0 ∙ c .before .before .before .size-of .ensures in
-    (omega arith, storing-match (g .list .now) (g .choice .now) (g .version .now) (g .block-area .now) (c .before .before .before .before .before .before .before .before .before .before .before .before .before .pre) (l .block-area) n (l .i) (l .at) (l .out) (l .inv .1) (c .before .before .before .before .chosen .result) is (omega arith) (c .enum-told2 .given .0 .0) (c .enum-told2 .given .0 .1 .0) _ (c .enum-told2 .given .1) (ap (λ (k : ℕ). l .at + k) size))
+    let size : c .before .before .index .result ≡ sizeOf (c .before .before .before .before .record-at .result) = c .before .before .index .ensures .0 ∙ c .before .before .before .size-of .ensures in
+    (omega arith, storing-match (g .list .now) (g .version .now) (g .block-area .now) (c .before .before .before .before .before .before .before .before .before .before .pre) (l .block-area) n (l .i) (l .at) (l .out) (l .fresh) (l .inv .1) (c .before .before .before .before .record-at .result) (c .before .before .before .before .record-at .ensures) (omega arith) (c .enum-told2 .given .0 .0) (c .enum-told2 .given .0 .1 .0) _ (c .enum-told2 .given .1) (ap (λ (k : ℕ). l .at + k) size))
 
 same-length : tie.Need-same-length Inv-loop μ-loop
 same-length c = c .before .loop .inv .1 .filling .same
 
 returns : tie.Need-returns Inv-loop μ-loop
 returns c =
-    let g = c .before .before .before .before .before .before .args in
-    let l = c .before .loop in
+    let g = (c .before .before .before .before .before .args) in
+    let l = (c .before .loop) in
     let n = length (g .list .now) / 12 in
-    storing-end (g .list .now) (g .choice .now) (g .version .now) (g .block-area .now) (c .before .before .before .before .before .before .pre) (l .block-area) n (l .i) (l .at) (l .out) (l .inv .1) (omega arith)
+    storing-end (g .list .now) (g .version .now) (g .block-area .now) (c .before .before .before .before .before .pre) (l .block-area) n (l .i) (l .at) (l .out) (l .fresh) (l .inv .1) (omega arith)
 
 pub write-block-spec : {M : Type 1} → statement M
 write-block-spec =
@@ -138,8 +127,6 @@ write-block-spec =
     μ-loop
     loop-holds
     record-at-requires
-    shared-slice-read-chosen
-    chosen-requires
     size-of-requires
     index-requires
     add-at
@@ -150,6 +137,7 @@ write-block-spec =
     part-part-end
     put-requires
     add-out
+    add-fresh
     loop-less
     loop-again
     enum-told-2

@@ -1,9 +1,9 @@
--- `words::same_byte` meets its contract. Assumes nothing.
+-- `word::same_byte` meets its contract. Assumes nothing.
 use native.Mathlib.Omega.{arith}
 use borrow.Author.Needs.{needs}
-use Rattle.words.proofs.WordLaw.{byte-tells}
-use Rattle.words.proofs.same_byte.Statement.{statement}
-use Rattle.words.proofs.same_byte.Tie as tie
+use Rattle.word.proofs.WordLaw.{byte-tells}
+use Rattle.word.proofs.same_byte.Statement.{statement}
+use Rattle.word.proofs.same_byte.Tie as tie
 
 shared-slice-read-result : tie.Need-shared-slice-read-result
 shared-slice-read-result c = search needs

@@ -1,9 +1,9 @@
--- `words::same_word` meets its contract, by the law of words. Assumes nothing.
+-- `word::same_word` meets its contract, by the law of words. Assumes nothing.
 use native.Mathlib.Omega.{arith}
 use borrow.Author.Needs.{needs}
-use Rattle.words.proofs.WordLaw.{words-tell}
-use Rattle.words.proofs.same_word.Statement.{statement}
-use Rattle.words.proofs.same_word.Tie as tie
+use Rattle.word.proofs.WordLaw.{words-tell}
+use Rattle.word.proofs.same_word.Statement.{statement}
+use Rattle.word.proofs.same_word.Tie as tie
 
 word-at-requires : tie.Need-word-at-requires
 word-at-requires c κs = search needs

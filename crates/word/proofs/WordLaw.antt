@@ -8,7 +8,7 @@ use lib.Dec.{eqb}
 use lib.ListN.{length, take, drop, getD, length-drop}
 use lib.Seq.{drop-cons, length-take-le, getD-take, getD-drop, ext-getD}
 use borrow.Author.Tests.{eqb-true, eq-eqb}
-use Rattle.words.specs.Words.{wordOf, EightBytes, eightAt, AllEqual, WordLaw, Tells}
+use Rattle.word.specs.Word.{wordOf, EightBytes, eightAt, AllEqual, WordLaw, Tells}
 
 abbrev Bytes : List ℕ → Type 0
 Bytes l = (k : ℕ) → k < length l → getD l k 0 < 256

@@ -7,7 +7,7 @@ use mathlib.Core.Bool.{Bool, true, false, _&&_}
 use mathlib.Core.List.{List, [], _∷_}
 use lib.Dec.{eqb}
 use borrow.Author.Tests.{eqb-true, eq-eqb}
-use Rattle.walk.specs.Checks.{sameBytes}
+use Rattle.words.specs.Same.{sameBytes}
 
 pub same-refl : (x : List ℕ) → sameBytes x x ≡ true
 same-refl [] = refl
