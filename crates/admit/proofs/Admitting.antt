@@ -34,34 +34,41 @@ use Rattle.area.specs.Area.{Areas}
 use Rattle.price.specs.declared.Price.{Price}
 use Rattle.price.specs.Price.{priceFits, ratesOf, RatesFit}
 use Rattle.price.proofs.Bounds.{rates-fit}
-use Rattle.admit.specs.Admit.{lengthsFit, areasFit, admitRuling, partitionRuling, findings, LongEnough}
+use Rattle.admit.specs.Admit.{lengthsFit, areasFit, inputsRuling, roomsRuling, coverRuling, admitRuling, partitionRuling, findings, LongEnough}
 
-module _ (price : Price) (list v st : List ℕ) (c a b : ℕ) where
-  pub admit-price : priceFits price ≡ false → admitRuling price list v st c a b ≡ Stop (refuse fault.Price 0)
-  admit-price j = rw j
+-- ---- the list beside version and store
 
-  module _ (j : priceFits price ≡ true) where
-    pub admit-lengths : lengthsFit v st ≡ false → admitRuling price list v st c a b ≡ Stop (refuse fault.TooLong 0)
-    admit-lengths k = rw (j, k)
+module _ (list v st : List ℕ) where
+  pub cover-walk : (x : Refusal) → walkRuling (checks scope.Version v st) list ≡ Stop x → coverRuling list v st ≡ Stop x
+  cover-walk x w = rw w
 
-    module _ (k : lengthsFit v st ≡ true) where
-      pub admit-list : listFits list ≡ false → admitRuling price list v st c a b ≡ Stop (refuse fault.ListLength 0)
-      admit-list l = rw (j, k, l)
+  module _ (w : walkRuling (checks scope.Version v st) list ≡ Fine) where
+    pub cover-short : (whole (recordsOf list) ≡ length v → ⊥) → coverRuling list v st ≡ Stop (refuse fault.Sizes (length (recordsOf list)))
+    cover-short n = rw (w, ne-eqb (whole (recordsOf list)) (length v) n)
 
-      module _ (l : listFits list ≡ true) where
-        pub admit-areas : areasFit list v c a b ≡ false → admitRuling price list v st c a b ≡ Stop (refuse fault.AreaTooShort 0)
-        admit-areas m = rw (j, k, l, m)
+    pub cover-fine : whole (recordsOf list) ≡ length v → coverRuling list v st ≡ Fine
+    cover-fine n = rw (w, eq-eqb (whole (recordsOf list)) (length v) n)
 
-        module _ (m : areasFit list v c a b ≡ true) where
-          pub admit-walk : (x : Refusal) → walkRuling (checks scope.Version v st) list ≡ Stop x → admitRuling price list v st c a b ≡ Stop x
-          admit-walk x w = rw (j, k, l, m, w)
+-- what a list has that is fine beside version and store
+pub record Covered (list v st : List ℕ) : Type 0 where
+  pub whole-is : whole (recordsOf list) ≡ length v
+  pub well-formed : WellFormed st (recordsOf list) v
 
-          module _ (w : walkRuling (checks scope.Version v st) list ≡ Fine) where
-            pub admit-short : (whole (recordsOf list) ≡ length v → ⊥) → admitRuling price list v st c a b ≡ Stop (refuse fault.Sizes (length (recordsOf list)))
-            admit-short n = rw (j, k, l, m, w, ne-eqb (whole (recordsOf list)) (length v) n)
+pub covered-of-fine : (list v st : List ℕ) → coverRuling list v st ≡ Fine → Covered list v st
+covered-of-fine list v st h =
+    let parts = fine-of-then (walkRuling (checks scope.Version v st) list) (need (eqb (whole (recordsOf list)) (length v)) fault.Sizes (length (recordsOf list))) h in
+    let ends = eqb-true (whole (recordsOf list)) (length v) (true-of-need _ fault.Sizes (length (recordsOf list)) (parts .1)) in
+    let each = each-of-fine (checks scope.Version v st) front (rowsOf list) (parts .0) in
+    record {
+      whole-is = ends;
+      well-formed = record {
+        sized = sized-of-four front (rowsOf list) (each .0);
+        apart = apart-of-five front (rowsOf list) (each .1 .0) .0;
+        agrees = agrees-of-eight v st front (rowsOf list) (each .1 .1 .0) (each .1 .1 .1 .0) (each .1 .1 .1 .1 .0) (omega (arith, ends));
+      };
+    }
 
-            pub admit-fine : whole (recordsOf list) ≡ length v → admitRuling price list v st c a b ≡ Fine
-            admit-fine n = rw (j, k, l, m, w, eq-eqb (whole (recordsOf list)) (length v) n)
+-- ---- price, lengths and rooms
 
 pub lengths-most : (v st : List ℕ) → lengthsFit v st ≡ true → (length v ≤ versionMost) × (length st ≤ storeMost)
 lengths-most v st h = let k = both-of-and (leb (length v) versionMost) (leb (length st) storeMost) h in (leb-true (length v) versionMost (k .0), leb-true (length st) storeMost (k .1))
@@ -77,73 +84,64 @@ areas-of-most list v c a b i j k =
     and-of-both (leb (length list / 12) c && leb (length list) a) (leb (length v) b)
     (and-of-both (leb (length list / 12) c) (leb (length list) a) (le-leb (length list / 12) c i) (le-leb (length list) a j)) (le-leb (length v) b k)
 
--- what admitted inputs have
-pub record Sound (price : Price) (list v st : List ℕ) (c a b : ℕ) : Type 0 where
+-- what inputs have that pass checks 1, 2 and 3
+pub record Inputs (price : Price) (list v st : List ℕ) : Type 0 where
   pub price-fits : priceFits price ≡ true
   pub rates-fit : RatesFit (ratesOf price)
   pub lengths-fit : lengthsFit v st ≡ true
   pub version-most : length v ≤ versionMost
   pub store-most : length st ≤ storeMost
   pub counted : Counted list
-  pub in-choice : length list / 12 ≤ c
-  pub in-area : length list ≤ a
-  pub in-block : length v ≤ b
-  pub whole-is : whole (recordsOf list) ≡ length v
-  pub well-formed : WellFormed st (recordsOf list) v
 
--- each check of admitted inputs, in their order
-record Passed (price : Price) (list v st : List ℕ) (c a b : ℕ) : Type 0 where
-  prices : priceFits price ≡ true
-  lengths : lengthsFit v st ≡ true
-  counts : listFits list ≡ true
-  areas : areasFit list v c a b ≡ true
-  walked : walkRuling (checks scope.Version v st) list ≡ Fine
-  ends : whole (recordsOf list) ≡ length v
-
-passed-of-fine : (price : Price) (list v st : List ℕ) (c a b : ℕ) → admitRuling price list v st c a b ≡ Fine → Passed price list v st c a b
-passed-of-fine price list v st c a b h =
-    let last : Ruling = need (eqb (whole (recordsOf list)) (length v)) fault.Sizes (length (recordsOf list)) in
-    let walk : Ruling = walkRuling (checks scope.Version v st) list in
-    let nine : Ruling = need (areasFit list v c a b) fault.AreaTooShort 0 in
-    let three : Ruling = need (listFits list) fault.ListLength 0 in
-    let two : Ruling = need (lengthsFit v st) fault.TooLong 0 in
-    let h₁ = fine-of-then (need (priceFits price) fault.Price 0) (two then three then nine then walk then last) h in
-    let h₂ = fine-of-then two (three then nine then walk then last) (h₁ .1) in
-    let h₃ = fine-of-then three (nine then walk then last) (h₂ .1) in
-    let h₄ = fine-of-then nine (walk then last) (h₃ .1) in
-    let h₅ = fine-of-then walk last (h₄ .1) in
+pub inputs-of-fine : (price : Price) (list v st : List ℕ) → inputsRuling price list v st ≡ Fine → Inputs price list v st
+inputs-of-fine price list v st h =
+    let three = need (listFits list) fault.ListLength 0 in
+    let two = need (lengthsFit v st) fault.TooLong 0 in
+    let h₁ = fine-of-then (need (priceFits price) fault.Price 0) (two then three) h in
+    let h₂ = fine-of-then two three (h₁ .1) in
+    let prices = true-of-need (priceFits price) fault.Price 0 (h₁ .0) in
+    let lengths = true-of-need (lengthsFit v st) fault.TooLong 0 (h₂ .0) in
     record {
-      prices = true-of-need (priceFits price) fault.Price 0 (h₁ .0);
-      lengths = true-of-need (lengthsFit v st) fault.TooLong 0 (h₂ .0);
-      counts = true-of-need (listFits list) fault.ListLength 0 (h₃ .0);
-      areas = true-of-need (areasFit list v c a b) fault.AreaTooShort 0 (h₄ .0);
-      walked = h₅ .0;
-      ends = eqb-true (whole (recordsOf list)) (length v) (true-of-need (eqb (whole (recordsOf list)) (length v)) fault.Sizes (length (recordsOf list)) (h₅ .1));
+      price-fits = prices;
+      rates-fit = rates-fit price prices;
+      lengths-fit = lengths;
+      version-most = lengths-most v st lengths .0;
+      store-most = lengths-most v st lengths .1;
+      counted = counted-of-fits list (true-of-need (listFits list) fault.ListLength 0 (h₂ .1));
     }
 
-pub sound-of-fine : (price : Price) (list v st : List ℕ) (c a b : ℕ) → admitRuling price list v st c a b ≡ Fine → Sound price list v st c a b
-sound-of-fine price list v st c a b h =
-    let p = passed-of-fine price list v st c a b h in
-    let l = lengths-most v st (p .lengths) in
-    let m = areas-most list v c a b (p .areas) in
-    let each = each-of-fine (checks scope.Version v st) front (rowsOf list) (p .walked) in
-    record {
-      price-fits = p .prices;
-      rates-fit = rates-fit price (p .prices);
-      lengths-fit = p .lengths;
-      version-most = l .0;
-      store-most = l .1;
-      counted = counted-of-fits list (p .counts);
-      in-choice = m .0;
-      in-area = m .1;
-      in-block = m .2;
-      whole-is = p .ends;
-      well-formed = record {
-        sized = sized-of-four front (rowsOf list) (each .0);
-        apart = apart-of-five front (rowsOf list) (each .1 .0) .0;
-        agrees = agrees-of-eight v st front (rowsOf list) (each .1 .1 .0) (each .1 .1 .1 .0) (each .1 .1 .1 .1 .0) (omega (arith, p .ends));
-      };
-    }
+-- ---- all checks
+
+module _ (price : Price) (list v st : List ℕ) (c a b : ℕ) where
+  -- each part of admitted inputs
+  record Passed : Type 0 where
+    inputs : inputsRuling price list v st ≡ Fine
+    rooms : roomsRuling list v c a b ≡ Fine
+    cover : coverRuling list v st ≡ Fine
+
+  passed-of-fine : admitRuling price list v st c a b ≡ Fine → Passed
+  passed-of-fine h =
+      let k = fine-of-then (inputsRuling price list v st) (roomsRuling list v c a b then coverRuling list v st) h in
+      let l = fine-of-then (roomsRuling list v c a b) (coverRuling list v st) (k .1) in
+      record { inputs = k .0; rooms = l .0; cover = l .1 }
+
+  -- what admitted inputs have
+  pub record Sound : Type 0 where
+    pub inputs : Inputs price list v st
+    pub in-choice : length list / 12 ≤ c
+    pub in-area : length list ≤ a
+    pub in-block : length v ≤ b
+    pub covered : Covered list v st
+
+  -- an admitted call's areas fit; where they do not, a call is refused, by 9 or what comes before it
+  pub areas-of-fine : admitRuling price list v st c a b ≡ Fine → areasFit list v c a b ≡ true
+  areas-of-fine h = true-of-need (areasFit list v c a b) fault.AreaTooShort 0 (passed-of-fine h .rooms)
+
+  pub sound-of-fine : admitRuling price list v st c a b ≡ Fine → Sound
+  sound-of-fine h =
+      let p = passed-of-fine h in
+      let m = areas-most list v c a b (areas-of-fine h) in
+      record { inputs = inputs-of-fine price list v st (p .inputs); in-choice = m .0; in-area = m .1; in-block = m .2; covered = covered-of-fine list v st (p .cover) }
 
 -- all checks are passed
 pub record Admitted (price : Price) (list v st : List ℕ) (c a b : ℕ) : Type 0 where
@@ -165,23 +163,15 @@ findings-of-long price list v st x h =
     admit-alike price list v st (length (x .choice)) (length (x .list)) (length (x .block)) (length list / 12) (length list) (length v)
     (h ∙ sym (areas-of-most list v (length list / 12) (length list) (length v) (omega arith) (omega arith) (omega arith)))
 
--- an admitted call's areas fit; where they do not, a call is refused, by 9 or what comes before it
-pub areas-of-fine : (price : Price) (list v st : List ℕ) (c a b : ℕ) → admitRuling price list v st c a b ≡ Fine → areasFit list v c a b ≡ true
-areas-of-fine price list v st c a b h = passed-of-fine price list v st c a b h .areas
-
 pub stop-of-short : (price : Price) (list v st : List ℕ) (c a b : ℕ) → areasFit list v c a b ≡ false → (x : Refusal) × (admitRuling price list v st c a b ≡ Stop x)
-stop-of-short price list v st c a b h =
-    let x = go (priceFits price) (lengthsFit v st) (listFits list) (walkRuling (checks scope.Version v st) list then need (eqb (whole (recordsOf list)) (length v)) fault.Sizes (length (recordsOf list))) in
-    (x .0, rw h (x .1))
+stop-of-short price list v st c a b h = let x = go (inputsRuling price list v st) (coverRuling list v st) in (x .0, rw h (x .1))
   where
-    go : (i j k : Bool) (r : Ruling) → (x : Refusal) × (need i fault.Price 0 then need j fault.TooLong 0 then need k fault.ListLength 0 then need false fault.AreaTooShort 0 then r ≡ Stop x)
-    go false j k r = (refuse fault.Price 0, refl)
-    go true false k r = (refuse fault.TooLong 0, refl)
-    go true true false r = (refuse fault.ListLength 0, refl)
-    go true true true r = (refuse fault.AreaTooShort 0, refl)
+    go : (q r : Ruling) → (x : Refusal) × (q then need false fault.AreaTooShort 0 then r ≡ Stop x)
+    go Fine r = (refuse fault.AreaTooShort 0, refl)
+    go (Stop x) r = (x, refl)
 
 -- a written list that is well formed is admitted where price, lengths and areas are
 pub fine-of-written : (price : Price) (l : List Record) (v st : List ℕ) (c a b : ℕ) → priceFits price ≡ true → lengthsFit v st ≡ true → length l ≤ 4096
     → areasFit (encode l) v c a b ≡ true → WellFormed st l v → admitRuling price (encode l) v st c a b ≡ Fine
 fine-of-written price l v st c a b j k n m w =
-    admit-fine price (encode l) v st c a b j k (fits-encode l n) m (walk-encode v st l w) (ap whole (records-encode l) ∙ whole-agrees st l v (w .agrees))
+    rw (j, k, fits-encode l n, m) (cover-fine (encode l) v st (walk-encode v st l w) (ap whole (records-encode l) ∙ whole-agrees st l v (w .agrees)))

@@ -26,15 +26,21 @@ lengthsFit v st = leb (length v) versionMost && leb (length st) storeMost
 abbrev pub areasFit : List ℕ → List ℕ → ℕ → ℕ → ℕ → Bool
 areasFit list v c a b = leb (length list / 12) c && leb (length list) a && leb (length v) b
 
--- "Order": 1, 2, 3; then 9; then record by record 4, 5, 6, 7, 8; then the short end, at place n. In areas of lengths c, a and b
+-- checks 1, 2 and 3: the price, the lengths of version and store, the length of the list
+abbrev pub inputsRuling : Price → List ℕ → List ℕ → List ℕ → Ruling
+inputsRuling price list v st = need (priceFits price) fault.Price 0 then need (lengthsFit v st) fault.TooLong 0 then need (listFits list) fault.ListLength 0
+
+-- check 9: rooms of lengths c, a and b for choice, list and stored block
+abbrev pub roomsRuling : List ℕ → List ℕ → ℕ → ℕ → ℕ → Ruling
+roomsRuling list v c a b = need (areasFit list v c a b) fault.AreaTooShort 0
+
+-- record by record 4, 5, 6, 7, 8; then the short end, at place n
+abbrev pub coverRuling : List ℕ → List ℕ → List ℕ → Ruling
+coverRuling list v st = walkRuling (checks scope.Version v st) list then need (eqb (whole (recordsOf list)) (length v)) fault.Sizes (length (recordsOf list))
+
+-- "Order": 1, 2, 3; then 9; then record by record 4, 5, 6, 7, 8, and the short end. In rooms of lengths c, a and b
 abbrev pub admitRuling : Price → List ℕ → List ℕ → List ℕ → ℕ → ℕ → ℕ → Ruling
-admitRuling price list v st c a b =
-    need (priceFits price) fault.Price 0
-    then need (lengthsFit v st) fault.TooLong 0
-    then need (listFits list) fault.ListLength 0
-    then need (areasFit list v c a b) fault.AreaTooShort 0
-    then walkRuling (checks scope.Version v st) list
-    then need (eqb (whole (recordsOf list)) (length v)) fault.Sizes (length (recordsOf list))
+admitRuling price list v st c a b = inputsRuling price list v st then roomsRuling list v c a b then coverRuling list v st
 
 -- all checks of a call of partition or pass, in the areas that are lent to it
 abbrev pub partitionRuling : Price → List ℕ → List ℕ → List ℕ → Areas → Ruling

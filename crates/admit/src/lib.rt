@@ -1,9 +1,12 @@
 // The checks that partition, pass, estimate and commit make of their inputs and areas, in their order.
+//
+// Three parts, each a function: what is found in price and lengths; the rooms; the list beside version and store.
 ghost use mathlib.Core.Path.{_≡_};
 ghost use Rattle.format.specs.Record.{recordsOf};
-ghost use Rattle.walk.specs.Walked.{walked};
-ghost use Rattle.admit.specs.Admit.{lengthsFit, areasFit, admitRuling};
+ghost use Rattle.walk.specs.Walked.{Lengths, walked};
+ghost use Rattle.admit.specs.Admit.{lengthsFit, areasFit, inputsRuling, roomsRuling, coverRuling, admitRuling};
 use format::Fault;
+use format::Ruling;
 use price::Price;
 use walk::Scope;
 use walk::Walked;
@@ -18,43 +21,62 @@ fn lengths_fit(version: &[u8], store: &[u8]) -> bool
     store.len() <= 268435456
 }
 
-// Check 9: whether areas of lengths c, a and b are long enough for choice, list and stored block.
-pub fn areas_fit(list: &[u8], version: &[u8], c: usize, a: usize, b: usize) -> bool
-    ensures { λ r. ⌜ r ≡ areasFit (now (list .entry)) (now (version .entry)) c a b ⌝ }
-{
-    if c < list.len() / 12 {
-        return false;
-    }
-    if a < list.len() {
-        return false;
-    }
-    version.len() <= b
-}
-
-// Checks 1, 2, 3, 9, then record by record 4 to 8, then the short end, where areas of lengths c, a and b are lent.
-pub fn admit(
-    price: Price,
+// Whether rooms of these lengths are long enough for choice, list and stored block.
+pub fn areas_fit(
     list: &[u8],
     version: &[u8],
-    store: &[u8],
-    c: usize,
-    a: usize,
-    b: usize,
-) -> Walked
-    ensures { λ r. ⌜ r ≡ walked (admitRuling price (now (list .entry)) (now (version .entry)) (now (store .entry)) c a b) (recordsOf (now (list .entry))) ⌝ }
+    choice_room: usize,
+    list_room: usize,
+    block_room: usize,
+) -> bool
+    ensures { λ r. ⌜ r ≡ areasFit (now (list .entry)) (now (version .entry)) «choice_room» «list_room» «block_room» ⌝ }
+{
+    if choice_room < list.len() / 12 {
+        return false;
+    }
+    if list_room < list.len() {
+        return false;
+    }
+    version.len() <= block_room
+}
+
+// Checks 1, 2 and 3.
+pub fn inputs(price: Price, list: &[u8], version: &[u8], store: &[u8]) -> Ruling
+    ensures { λ r. ⌜ r ≡ inputsRuling price (now (list .entry)) (now (version .entry)) (now (store .entry)) ⌝ }
 {
     if !price::in_range(price) {
-        return walk::stopped(Fault::Price, 0);
+        return walk::stop(Fault::Price, 0);
     }
     if !lengths_fit(version, store) {
-        return walk::stopped(Fault::TooLong, 0);
+        return walk::stop(Fault::TooLong, 0);
     }
     if !format::list_fits(list) {
-        return walk::stopped(Fault::ListLength, 0);
+        return walk::stop(Fault::ListLength, 0);
     }
-    if !areas_fit(list, version, c, a, b) {
-        return walk::stopped(Fault::AreaTooShort, 0);
+    Ruling::Fine
+}
+
+// Check 9.
+fn rooms(
+    list: &[u8],
+    version: &[u8],
+    choice_room: usize,
+    list_room: usize,
+    block_room: usize,
+) -> Ruling
+    ensures { λ r. ⌜ r ≡ roomsRuling (now (list .entry)) (now (version .entry)) «choice_room» «list_room» «block_room» ⌝ }
+{
+    if !areas_fit(list, version, choice_room, list_room, block_room) {
+        return walk::stop(Fault::AreaTooShort, 0);
     }
+    Ruling::Fine
+}
+
+// Record by record 4 to 8, then the short end.
+pub fn cover(list: &[u8], version: &[u8], store: &[u8]) -> Walked
+    requires { ⌜ Lengths (now list) (now version) ⌝ }
+    ensures { λ r. ⌜ r ≡ walked (coverRuling (now (list .entry)) (now (version .entry)) (now (store .entry))) (recordsOf (now (list .entry))) ⌝ }
+{
     let w = walk::walk(list, version, store, Scope::Version);
     let Walked::Through(t) = w else {
         return w;
@@ -63,4 +85,27 @@ pub fn admit(
         return walk::stopped(Fault::Sizes, t.entries);
     }
     w
+}
+
+// All checks of a call to which rooms of these lengths are lent.
+pub fn admit(
+    price: Price,
+    list: &[u8],
+    version: &[u8],
+    store: &[u8],
+    choice_room: usize,
+    list_room: usize,
+    block_room: usize,
+) -> Walked
+    ensures { λ r. ⌜ r ≡ walked (admitRuling price (now (list .entry)) (now (version .entry)) (now (store .entry)) «choice_room» «list_room» «block_room») (recordsOf (now (list .entry))) ⌝ }
+{
+    let first = inputs(price, list, version, store);
+    if let Ruling::Stop(refusal) = first {
+        return Walked::Stopped(refusal);
+    }
+    let nine = rooms(list, version, choice_room, list_room, block_room);
+    if let Ruling::Stop(refusal) = nine {
+        return Walked::Stopped(refusal);
+    }
+    cover(list, version, store)
 }
