@@ -3,17 +3,12 @@
 use Prim.Native.Nat.{ℕ}
 use mathlib.Core.List.{List}
 use Rattle.format.specs.declared.Answer.{Answer}
-use Rattle.format.specs.Record.{recordsOf}
 use Rattle.price.specs.declared.Price.{Price}
 use Rattle.price.specs.Price.{ratesOf}
 use Rattle.area.specs.Area.{Areas}
-use Rattle.choice.specs.Choice.{Bit, least}
+use Rattle.choice.specs.Choice.{leastOf}
 use Rattle.admit.specs.Admit.{partitionRuling}
 use Rattle.writer.specs.Decide.{Decided}
-
--- the least choice for a list of bytes
-abbrev pub leastOf : Price → List ℕ → List Bit
-leastOf price list = least (ratesOf price) (recordsOf list)
 
 -- the least choice, its list and its stored block; the answer carries its cost, entries and stored bytes
 abbrev pub Partitioned : Price → List ℕ → List ℕ → List ℕ → Areas → Answer → Areas → Type 0

@@ -4,3 +4,4 @@ pub mod Least
 pub mod Lists
 pub mod Scaling
 pub mod Holding
+pub mod Pricing

@@ -8,10 +8,11 @@ use lib.Dec.{eqb, leb}
 use lib.ListN.{getD}
 use Rattle.format.specs.declared.Record.{Record}
 use Rattle.format.specs.declared.Record.the-variants.{New, Match}
-use Rattle.format.specs.Record.{from}
+use Rattle.format.specs.Record.{from, recordsOf}
 use Rattle.format.specs.Meaning.{sizeOf}
+use Rattle.price.specs.declared.Price.{Price}
 use Rattle.price.specs.declared.Rates.{Rates}
-use Rattle.price.specs.Price.{cost}
+use Rattle.price.specs.Price.{ratesOf, cost}
 use Rattle.join.specs.Join.{tidy}
 
 -- 0: kept as match; 1: new
@@ -118,6 +119,10 @@ firstOf f (c ∷ cs) = firstMin f c cs
 -- the least choice: of all choices in order, the first whose list costs least, at the rates r
 abbrev pub least : Rates → List Record → List Bit
 least r rs = firstOf (costOf r rs) (choices rs)
+
+-- the least choice for a list of bytes, at a price
+abbrev pub leastOf : Price → List ℕ → List Bit
+leastOf price list = least (ratesOf price) (recordsOf list)
 
 -- what makes a choice the least: it costs no more than any other, and where another costs as much it has 0 at the first record where they differ
 pub record IsLeast (r : Rates) (rs : List Record) (c : List Bit) : Type 0 where

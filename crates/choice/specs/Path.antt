@@ -1,16 +1,18 @@
 -- The least path: a cost that is a sum over the records, each one's part by the state before it and its bit; the least such cost, the choice that
 -- has it, and what the two sweeps of the code leave. And the path of a choice's cost.
 -- Assumes nothing.
-use Prim.Native.Nat.{ℕ, _+_, _*_}
+use Prim.Native.Nat.{ℕ, _+_, _*_, _≤_}
+use mathlib.Core.Path.{_≡_}
 use mathlib.Core.Bool.{Bool, true, false, cond}
 use mathlib.Core.List.{List, [], _∷_}
 use lib.Dec.{leb}
 use Rattle.format.specs.declared.Record.{Record}
 use Rattle.format.specs.declared.Record.the-variants.{New, Match}
+use Rattle.price.specs.declared.Cost.{Cost}
 use Rattle.price.specs.declared.Rates.{Rates}
 use Rattle.join.specs.declared.Open.{Open}
 use Rattle.join.specs.declared.Open.the-variants.{One}
-use Rattle.join.specs.Emit.{follows}
+use Rattle.join.specs.Open.{follows}
 use Rattle.choice.specs.Choice.{Bit, keep, store, Free, only, either, freedom, chosenRecord}
 
 abbrev pub bitFor : Bool → Bit
@@ -80,3 +82,12 @@ added rates o r = cond (follows o r) 0 (entryOf rates r) + bytesIn rates r
 
 abbrev pub step : Rates → Open → Record → Bit → ℕ
 step rates o r b = added rates o (chosenRecord b r)
+
+-- no step costs more: the dearest entry, 255 × 65,535, and 2³² stored bytes at 256 each
+abbrev pub stepMost : ℕ
+stepMost = 1099528339201
+
+-- what a record adds
+pub record Adds (rates : Rates) (o : Open) (r : Record) (d : Cost) : Type 0 where
+  pub is : d .0 ≡ added rates o r
+  pub most : d .0 ≤ stepMost

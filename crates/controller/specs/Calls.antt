@@ -8,10 +8,9 @@ use Rattle.price.specs.declared.Rates.{Rates}
 use Rattle.price.specs.declared.Price.{Price}
 use Rattle.price.specs.Price.{ratesOf}
 use Rattle.area.specs.Area.{Areas}
-use Rattle.choice.specs.Choice.{Bit}
+use Rattle.choice.specs.Choice.{Bit, leastOf}
 use Rattle.admit.specs.Admit.{partitionRuling}
 use Rattle.writer.specs.Decide.{decidedAnswer, decidedAreas}
-use Rattle.call_partition.specs.Partition.{leastOf}
 use Rattle.call_pass.specs.Pass.{passChoiceOf, passLooksOf}
 use Rattle.answer.specs.Layout.{Answered, lent}
 

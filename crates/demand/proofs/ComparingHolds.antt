@@ -24,7 +24,7 @@ use Rattle.words.proofs.Equality.{same-refl, same-of-eq, not-same, same-sym}
 use Rattle.price.specs.declared.Price.{Price}
 use Rattle.price.specs.Price.{ratesOf}
 use Rattle.area.proofs.Filling.{front}
-use Rattle.choice.specs.Choice.{Bit, IsChoice, listOf}
+use Rattle.choice.specs.Choice.{Bit, IsChoice, listOf, leastOf}
 use Rattle.choice.proofs.Least.{least-fits}
 use Rattle.admit.specs.Admit.{partitionRuling}
 use Rattle.admit.proofs.Admitting.{Sound, sound-of-fine}
@@ -36,7 +36,6 @@ use Rattle.rebuild.specs.Rebuild.{rebuildRuling}
 use Rattle.compare.specs.Compare.{versionOf, yesOrNo, saysYes, compared}
 use Rattle.compare.proofs.Comparing.{length-version}
 use Rattle.compare.proofs.Answering.{compared-fine}
-use Rattle.call_partition.specs.Partition.{leastOf}
 use Rattle.linear.proofs.Theorems.{pass-holds}
 use Rattle.call_pass.specs.Pass.{passChoiceOf, passLooksOf}
 use Rattle.demand.specs.Demand.{Call, Rebuilding, writtenList, writtenBlock}

@@ -16,14 +16,14 @@ use Rattle.format.specs.Meaning.{whole, blockOf}
 use Rattle.price.specs.declared.Price.{Price}
 use Rattle.price.specs.Price.{ratesOf}
 use Rattle.area.specs.Area.{over, Areas}
-use Rattle.choice.specs.Choice.{Bit, listOf, keepAll}
+use Rattle.choice.specs.Choice.{Bit, listOf, keepAll, leastOf}
 use Rattle.choice.proofs.Least.{least-is-least, least-fits}
 use Rattle.admit.specs.Admit.{findings, partitionRuling, LongEnough}
 use Rattle.admit.proofs.Admitting.{Sound, sound-of-fine, findings-of-long}
 use Rattle.writer.specs.Decide.{figures, laid}
 use Rattle.writer.proofs.Deciding.{decided-answer, decided-areas, list-handed-on, block-handed-on, block-within}
 use Rattle.rebuild.specs.Rebuild.{Rebuilt}
-use Rattle.call_partition.specs.Partition.{leastOf, Partitioned}
+use Rattle.call_partition.specs.Partition.{Partitioned}
 use Rattle.linear.proofs.Theorems.{PassHolds, pass-holds}
 use Rattle.call_pass.specs.Pass.{passChoiceOf, passLooksOf}
 use Rattle.demand.specs.Demand.{Calls, writtenList, writtenBlock, Made, Room, Demand, DemandThree, Demonstrated}

@@ -25,7 +25,7 @@ use Rattle.price.specs.Price.{ratesOf}
 use Rattle.area.specs.Area.{over, Areas, areas}
 use Rattle.join.specs.Join.{tidy}
 use Rattle.area.proofs.Filling.{front}
-use Rattle.choice.specs.Choice.{Bit, bitBytes, IsChoice, listOf, keepAll}
+use Rattle.choice.specs.Choice.{Bit, bitBytes, IsChoice, listOf, keepAll, leastOf}
 use Rattle.choice.proofs.Lists.{length-bits, length-choice}
 use Rattle.choice.proofs.Least.{least-fits, least-is-least, keepAll-list, keepAll-is-choice}
 use Rattle.admit.specs.Admit.{areasFit, admitRuling, partitionRuling}
@@ -33,7 +33,7 @@ use Rattle.admit.proofs.Admitting.{Sound, sound-of-fine, areas-most, areas-of-m
 use Rattle.writer.specs.Write.{listIn}
 use Rattle.writer.specs.Decide.{figures, decidedAnswer, decidedAreas, Decided}
 use Rattle.writer.proofs.Deciding.{decided-answer, list-handed-on, block-handed-on}
-use Rattle.call_partition.specs.Partition.{leastOf, Partitioned}
+use Rattle.call_partition.specs.Partition.{Partitioned}
 use Rattle.estimate.specs.Estimate.{estimateRuling, Estimated}
 use Rattle.commit.specs.Commit.{choiceRuling, commitRuling, Committed}
 use Rattle.commit.proofs.Choosing.{Stands, stands, choice-of-fine, fine-of-choice}

@@ -22,7 +22,7 @@ use Rattle.price.specs.Price.{ratesOf}
 use Rattle.measure.specs.Measure.{measured, measures}
 use Rattle.measure.proofs.Measuring.{measured-fine}
 use Rattle.area.specs.Area.{over, Areas}
-use Rattle.choice.specs.Choice.{Bit, IsChoice, listOf, keepAll}
+use Rattle.choice.specs.Choice.{Bit, IsChoice, listOf, keepAll, leastOf}
 use Rattle.choice.proofs.Least.{again-keeps, again-list}
 use Rattle.choice.proofs.Lists.{length-list, well-formed-list}
 use Rattle.admit.specs.Admit.{partitionRuling, LongEnough}
@@ -31,7 +31,6 @@ use Rattle.show.specs.Check.{inputsRuling}
 use Rattle.rebuild.specs.Rebuild.{rebuildRuling, Rebuilt}
 use Rattle.show.proofs.Accepting.{inputs-written}
 use Rattle.rebuild.proofs.Accepting.{rebuild-fine}
-use Rattle.call_partition.specs.Partition.{leastOf}
 
 -- of any choice
 module _ {price : Price} {list v st : List ℕ} {c a b : ℕ} (s : Sound price list v st c a b) (d : List Bit) (h : IsChoice (recordsOf list) d) where

@@ -19,7 +19,7 @@ use Rattle.price.specs.Price.{cost}
 use Rattle.price.proofs.Bounds.{entries}
 use Rattle.join.specs.declared.Open.{Open}
 use Rattle.join.specs.declared.Open.the-variants.{No, One}
-use Rattle.join.specs.Emit.{follows}
+use Rattle.join.specs.Open.{follows}
 use Rattle.choice.specs.Choice.{bitAt, bitsOf, chosenRecord}
 use Rattle.choice.specs.Path.{walk, after, added, step}
 use Rattle.choice.proofs.Least.{cost-walk}

@@ -10,12 +10,11 @@ use Rattle.format.specs.declared.Answer.the-variants.{Accepted, Refused}
 use Rattle.format.specs.Record.{recordsOf}
 use Rattle.price.specs.declared.Price.{Price}
 use Rattle.price.specs.Price.{ratesOf}
-use Rattle.choice.specs.Choice.{listOf}
+use Rattle.choice.specs.Choice.{listOf, leastOf}
 use Rattle.choice.proofs.Least.{least-fits}
 use Rattle.sweep.specs.Sweep.{LeastIn}
 use Rattle.writer.specs.Write.{listIn}
 use Rattle.writer.proofs.Deciding.{list-over}
-use Rattle.call_partition.specs.Partition.{leastOf}
 use Rattle.estimate.specs.declared.Counts.{Counts}
 use Rattle.estimate.specs.Count.{CountsOf}
 use Rattle.estimate.specs.Estimate.{estimateRuling, Estimated}

@@ -10,10 +10,9 @@ use Rattle.format.specs.Refusal.{unlessRefused}
 use Rattle.price.specs.declared.Price.{Price}
 use Rattle.price.specs.Price.{ratesOf}
 use Rattle.area.specs.Area.{over}
-use Rattle.choice.specs.Choice.{bitBytes}
+use Rattle.choice.specs.Choice.{bitBytes, leastOf}
 use Rattle.admit.specs.Admit.{admitRuling}
 use Rattle.writer.specs.Decide.{decidedAnswer}
-use Rattle.call_partition.specs.Partition.{leastOf}
 
 -- "partition's checks, with 9 in its place": by the choice area alone, as list and stored block are given just the lengths that they need
 abbrev pub estimateRuling : Price → List ℕ → List ℕ → List ℕ → List ℕ → Ruling

@@ -6,7 +6,7 @@ ghost use Prim.Native.Nat.{_≤_};
 ghost use mathlib.Core.Bool.{cond};
 ghost use mathlib.Core.List.{[], _∷_};
 ghost use Rattle.format.specs.Meaning.{stored};
-ghost use Rattle.join.specs.Emit.{follows};
+ghost use Rattle.join.specs.Open.{follows};
 ghost use Rattle.estimate.specs.Estimate.{Estimated};
 ghost use Rattle.estimate.specs.Count.{CountReady, CountsOf};
 use format::Answer;

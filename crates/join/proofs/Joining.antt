@@ -14,7 +14,7 @@ use borrow.Author.Tests.{eqb-true}
 use Rattle.format.specs.declared.Source.{Source}
 use Rattle.format.specs.declared.Record.{Record}
 use Rattle.format.specs.declared.Record.the-variants.{New, Match}
-use Rattle.format.specs.Meaning.{sizeOf, whole, blockOf}
+use Rattle.format.specs.Meaning.{sizeOf, whole, stored, blockOf}
 use Rattle.format.specs.WellFormed.{Sized, Apart, Agrees}
 use Rattle.format.proofs.Rulings.{both-of-and}
 use Rattle.join.specs.Join.{goesOn, joins, grown, joinsFirst, join, tidy, Settled}
@@ -165,6 +165,18 @@ block-join (Match s a) (Match t b ∷ l) v = go (goesOn s a b)
     go true = rw (drop-drop t s v)
     go false = refl
 
+pub stored-join : (r : Record) (l : List Record) → stored (join r l) ≡ stored (r ∷ l)
+stored-join (New s) [] = refl
+stored-join (New s) (New t ∷ l) = omega arith
+stored-join (New s) (Match t b ∷ l) = refl
+stored-join (Match s a) [] = refl
+stored-join (Match s a) (New t ∷ l) = refl
+stored-join (Match s a) (Match t b ∷ l) = go (goesOn s a b)
+  where
+    go : (x : Bool) → stored (cond x (Match (s + t) a ∷ l) (Match s a ∷ Match t b ∷ l)) ≡ stored l
+    go true = refl
+    go false = refl
+
 -- ---- the tidy form
 
 -- whether a record joins the first of a list does not depend on what that one joins
@@ -210,6 +222,12 @@ length-tidy (r ∷ l) = omega (arith, length-join r (tidy l), length-tidy l)
 pub whole-tidy : (l : List Record) → whole (tidy l) ≡ whole l
 whole-tidy [] = refl
 whole-tidy (r ∷ l) = whole-join r (tidy l) ∙ ap (λ (n : ℕ). sizeOf r + n) (whole-tidy l)
+
+-- its stored bytes are the list's
+pub stored-tidy : (l : List Record) → stored (tidy l) ≡ stored l
+stored-tidy [] = refl
+stored-tidy (New s ∷ l) = stored-join (New s) (tidy l) ∙ ap (λ (n : ℕ). s + n) (stored-tidy l)
+stored-tidy (Match s a ∷ l) = stored-join (Match s a) (tidy l) ∙ stored-tidy l
 
 -- no two new records of it stand side by side
 pub apart-tidy : (l : List Record) → Apart (tidy l)

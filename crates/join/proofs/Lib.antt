@@ -1,2 +1,2 @@
 pub mod Joining
-pub mod Emitting
+pub mod Opening

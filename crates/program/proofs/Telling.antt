@@ -18,14 +18,14 @@ use Rattle.format.proofs.Rows.{length-recordsOf}
 use Rattle.format.proofs.Encoding.{length-encode, records-encode}
 use Rattle.price.specs.declared.Price.{Price}
 use Rattle.price.specs.Price.{ratesOf}
-use Rattle.choice.specs.Choice.{Bit, listOf}
+use Rattle.choice.specs.Choice.{Bit, listOf, leastOf}
 use Rattle.choice.proofs.Lists.{length-list}
 use Rattle.area.specs.Area.{Areas, areas}
 use Rattle.admit.specs.Admit.{partitionRuling, findings}
 use Rattle.admit.proofs.Admitting.{areas-of-most, findings-of-long}
 use Rattle.writer.specs.Decide.{figures, Decided}
 use Rattle.writer.proofs.Deciding.{decided-answer, list-handed-on, list-room}
-use Rattle.call_partition.specs.Partition.{leastOf, Partitioned}
+use Rattle.call_partition.specs.Partition.{Partitioned}
 use Rattle.report.specs.Text.{reportText}
 use Rattle.program.specs.Program.{textFor, Roomy}
 

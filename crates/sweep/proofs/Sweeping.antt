@@ -12,28 +12,19 @@ use lib.Seq.{take-suc, set-at, length-take-le, drop-cons, take-suc-set, drop-set
 use Rattle.format.specs.declared.Record.{Record}
 use Rattle.format.specs.Record.{rowAt, recordOf, recordsOf, recordsFrom}
 use Rattle.format.proofs.Rows.{recordsFrom-back, recordsFrom-none, recordsFrom-all, length-recordsOf}
-use Rattle.price.specs.declared.Cost.{Cost}
 use Rattle.price.specs.declared.Rates.{Rates}
 use Rattle.join.specs.declared.Open.{Open}
 use Rattle.join.specs.declared.Open.the-variants.{No, One}
-use Rattle.join.specs.Emit.{follows}
 use Rattle.choice.specs.Choice.{Bit, keep, store, bitByte, bitBytes, only, either, freedom, least}
-use Rattle.choice.specs.Path.{pickBit, follow, after, entryOf, bytesIn, step}
+use Rattle.choice.specs.Path.{pickBit, follow, after, step, stepMost}
 use Rattle.choice.proofs.Path.{follow-pick}
 use Rattle.choice.proofs.Least.{least-pick, least-cost, least-fits}
 use Rattle.choice.proofs.Lists.{length-bits, length-choice}
 use Rattle.sweep.specs.declared.Turn.{Turn}
 use Rattle.sweep.specs.declared.Way.{Way}
-use Rattle.sweep.specs.Sweep.{hintByte, hintBytes, stepMost, Better, Adds, beforeAt, leftBy, turned, Turned, bestOf, hintsOf, nextBit, forwards, Back, LeastIn}
+use Rattle.sweep.specs.Sweep.{hintByte, hintBytes, Better, beforeAt, leftBy, turned, Turned, bestOf, hintsOf, nextBit, forwards, Back, LeastIn}
 
 -- ---- one record
-
-module _ (rates : Rates) (o : Open) (r : Record) (d : Cost) where
-  pub adds-joined : follows o r ≡ true → d .0 ≡ bytesIn rates r → d .0 ≤ stepMost → Adds rates o r d
-  adds-joined f e h = record { is = rw f (omega (arith, e)); most = h }
-
-  pub adds-apart : follows o r ≡ false → d .0 ≡ entryOf rates r + bytesIn rates r → d .0 ≤ stepMost → Adds rates o r d
-  adds-apart f e h = record { is = rw f e; most = h }
 
 -- the better way, by the tests that the code makes: k is what keeping the record comes to, n is what storing it does
 module _ (rates : Rates) (o : Open) (r : Record) (kept stored k n : ℕ) (ek : k ≡ step rates o r keep + kept) (en : n ≡ step rates o r store + stored) (kept-most : k ≤ kept + stepMost) (stored-most : n ≤ stored + stepMost) where

@@ -8,14 +8,13 @@ use lib.Dec.{eqb}
 use lib.ListN.{length, drop}
 use Rattle.format.specs.declared.Record.{Record}
 use Rattle.format.specs.Record.{rowAt, recordOf, recordsOf, recordsFrom}
-use Rattle.price.specs.declared.Cost.{Cost}
 use Rattle.price.specs.declared.Rates.{Rates}
 use Rattle.price.specs.Price.{RatesFit}
 use Rattle.area.specs.Area.{over}
 use Rattle.join.specs.declared.Open.{Open}
 use Rattle.join.specs.declared.Open.the-variants.{No, One}
 use Rattle.choice.specs.Choice.{Bit, keep, store, bitByte, bitBytes, freedom, chosenRecord, costOf, least}
-use Rattle.choice.specs.Path.{decide, at, best, hints, after, added, step}
+use Rattle.choice.specs.Path.{decide, at, best, hints, after, step, stepMost}
 use Rattle.sweep.specs.declared.Turn.{Turn}
 use Rattle.sweep.specs.declared.Way.{Way}
 
@@ -36,19 +35,10 @@ wayOf rates o r kept stored =
     let b = decide (freedom r) k n in
     record { cost = record { 0 = at b k n }; bit = bitByte b }
 
--- no step costs more: the dearest entry, 255 × 65,535, and 2³² stored bytes at 256 each
-abbrev pub stepMost : ℕ
-stepMost = 1099528339201
-
 pub record Better (rates : Rates) (o : Open) (r : Record) (kept stored : ℕ) (w : Way) : Type 0 where
   pub is : w ≡ wayOf rates o r kept stored
   pub cost-most : (m : ℕ) → kept ≤ m → stored ≤ m → w .cost .0 ≤ m + stepMost
   pub bit-most : w .bit ≤ 1
-
--- what a record adds
-pub record Adds (rates : Rates) (o : Open) (r : Record) (d : Cost) : Type 0 where
-  pub is : d .0 ≡ added rates o r
-  pub most : d .0 ≤ stepMost
 
 -- the record before record i of a list, if there is one
 abbrev pub beforeAt : List ℕ → ℕ → Open

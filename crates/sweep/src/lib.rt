@@ -1,15 +1,14 @@
 // The least choice of a list, by two sweeps: linear time, and no memory beyond the lent choice area and a few numbers.
 //
 // From the rear: the least cost of what follows a kept and a stored record, and for each record two bits, what to do after either. A record is priced
-// by the one before it, which it may join.
+// by the one before it, which it may join (crate `choice`).
 // From the front: each pair of bits becomes the choice byte.
 ghost use mathlib.Core.Path.{_≡_};
 ghost use Prim.Native.Nat.{_*_, _/_, _≤_};
 ghost use lib.ListN.{length};
 ghost use Rattle.price.specs.Price.{RatesFit};
 ghost use Rattle.choice.specs.Choice.{store};
-ghost use Rattle.choice.specs.Path.{entryOf, bytesIn};
-ghost use Rattle.sweep.specs.Sweep.{Adds, Better, leftBy, Turned, beforeAt, Room, Back, nextBit, forwards, LeastIn};
+ghost use Rattle.sweep.specs.Sweep.{Better, leftBy, Turned, beforeAt, Room, Back, nextBit, forwards, LeastIn};
 use format::Record;
 use join::Open;
 use price::Cost;
@@ -28,40 +27,6 @@ pub struct Turn {
     pub hint: u8,
 }
 
-// What an entry costs, by its kind.
-fn entry_of(rates: Rates, record: Record) -> Cost
-    requires { ⌜ RatesFit rates ⌝ }
-    ensures { λ r. ⌜ (r .0 ≡ entryOf rates «record») × (r .0 ≤ 16711425) ⌝ }
-{
-    match record {
-        Record::New(_) => rates.fresh,
-        Record::Match(_, _) => rates.kept,
-    }
-}
-
-// What the stored bytes of an entry cost.
-fn bytes_in(rates: Rates, record: Record) -> Cost
-    requires { ⌜ RatesFit rates ⌝ }
-    ensures { λ r. ⌜ (r .0 ≡ bytesIn rates «record») × (r .0 ≤ 1099511627776) ⌝ }
-{
-    match record {
-        Record::New(size) => price::storing(rates, size),
-        Record::Match(_, _) => Cost(0),
-    }
-}
-
-// What a record adds to the cost after the one before it: an entry, unless the two join, and its stored bytes.
-fn added(rates: Rates, before: Open, record: Record) -> Cost
-    requires { ⌜ RatesFit rates ⌝ }
-    ensures { λ r. ⌜ Adds rates before «record» r ⌝ }
-{
-    let bytes = bytes_in(rates, record);
-    if join::follows(before, record) {
-        return bytes;
-    }
-    Cost(entry_of(rates, record).0 + bytes.0)
-}
-
 // The better way with a record after the one before it: `kept` and `stored` are the least costs of what follows it, after it is kept and after it is
 // stored. A new record is stored, and a held match is kept, whatever they come to. By the record's kind first, as that asks least of the processor.
 fn better(rates: Rates, before: Open, record: Record, kept: Cost, stored: Cost) -> Way
@@ -70,12 +35,12 @@ fn better(rates: Rates, before: Open, record: Record, kept: Cost, stored: Cost) 
 {
     match record {
         Record::New(_) => Way {
-            cost: Cost(added(rates, before, record).0 + stored.0),
+            cost: Cost(choice::added(rates, before, record).0 + stored.0),
             bit: 1,
         },
         Record::Match(size, source) => {
-            let keep = Cost(added(rates, before, record).0 + kept.0);
-            let store = Cost(added(rates, before, Record::New(size)).0 + stored.0);
+            let keep = Cost(choice::added(rates, before, record).0 + kept.0);
+            let store = Cost(choice::added(rates, before, Record::New(size)).0 + stored.0);
             if source.held {
                 return Way { cost: keep, bit: 0 };
             }

@@ -1,5 +1,4 @@
--- Writing record by record: before record i, what is written stands in the area, and the open record with the rest of the choice's list is
--- what is to come; likewise for the stored block.
+-- What a choice leaves of the records, and the runs of stored ones; the stored block, record by record; and what both writings ask.
 -- Assumes nothing.
 use Prim.Native.Nat.{ℕ, _+_, _-_, _/_, _≤_, _<_}
 use native.Mathlib.Omega.{arith}
@@ -11,7 +10,6 @@ use borrow.Author.Tests.{ne-eqb}
 use Rattle.format.specs.declared.Source.{Source}
 use Rattle.format.specs.declared.Record.{Record}
 use Rattle.format.specs.declared.Record.the-variants.{New, Match}
-use Rattle.format.specs.Limits.{versionMost}
 use Rattle.format.specs.Record.{from, rowAt, recordOf, records, recordsOf, encode, recordsFrom}
 use Rattle.format.specs.Meaning.{sizeOf, whole, stored, blockOf}
 use Rattle.format.proofs.Rows.{recordsFrom-next, recordsFrom-none, recordsFrom-all, from-next, length-from, length-recordsOf}
@@ -20,49 +18,41 @@ use Rattle.format.proofs.Encoding.{encode-append, length-encode, records-encode
 use Rattle.price.specs.Price.{news}
 use Rattle.area.specs.Area.{pasted}
 use Rattle.area.proofs.Filling.{Filling, filling-start, filling-put, filling-end, filling-out, filling-room}
-use Rattle.join.specs.declared.Open.{Open}
-use Rattle.join.specs.declared.Open.the-variants.{No}
 use Rattle.join.specs.Join.{join, tidy}
-use Rattle.join.specs.Emit.{pending, openSize, flushed, opened}
-use Rattle.join.proofs.Emitting.{ahead, ahead-none, ahead-join, open-size}
+use Rattle.join.proofs.Joining.{join-on, whole-tidy}
+use Rattle.emit.proofs.Listing.{entry-one}
 use Rattle.choice.specs.Choice.{bitAt, bitsOf, chosen, chosenRecord}
-use Rattle.choice.proofs.Lists.{size-chosen, whole-list, length-list}
-use Rattle.writer.specs.Write.{listIn, blockIn, listFrom, RunOf, ListReady, ListWritten, BlockReady, BlockWritten, Writable}
+use Rattle.choice.proofs.Lists.{whole-list, length-list}
+use Rattle.writer.specs.Write.{listIn, blockIn, chosenFrom, RunOf, ListReady, BlockReady, BlockWritten, Writable}
 
-listFrom-all : (list choice : List ℕ) → listIn list choice ≡ listFrom list choice (length list / 12) 0
-listFrom-all list choice =
-    let e : length list / 12 ≡ length list / 12 - 0 = omega arith in
-    ap (λ (m : ℕ). tidy (chosen (records (from (rowAt list) 0 m)) (from (bitAt choice) 0 m))) e
+-- ---- what a choice leaves of the records
 
-module _ (list choice : List ℕ) (n i : ℕ) (r : Record) (is : r ≡ chosenRecord (bitAt choice i) (recordOf (rowAt list i))) (h : i < n) where
-  list-split : listFrom list choice n i ≡ join r (listFrom list choice n (i + 1))
-  list-split = rw (recordsFrom-next list n i h, from-next (bitAt choice) i n h, ← is)
+pub chosenFrom-all : (list choice : List ℕ) → chosenFrom list choice (length list / 12) 0 ≡ chosen (recordsOf list) (bitsOf (length list / 12) choice)
+chosenFrom-all list choice =
+    let e : length list / 12 - 0 ≡ length list / 12 = omega arith in
+    ap (λ (m : ℕ). chosen (records (from (rowAt list) 0 m)) (from (bitAt choice) 0 m)) e
 
-  whole-split : whole (recordsFrom list n i) ≡ sizeOf r + whole (recordsFrom list n (i + 1))
-  whole-split =
-      ap whole (recordsFrom-next list n i h)
-      ∙ ap (λ (k : ℕ). k + whole (recordsFrom list n (i + 1))) (sym (ap sizeOf is ∙ size-chosen (bitAt choice i) (recordOf (rowAt list i))))
+pub chosenFrom-none : (list choice : List ℕ) (n i : ℕ) → n ≤ i → chosenFrom list choice n i ≡ []
+chosenFrom-none list choice n i h = rw (recordsFrom-none list n i h)
+
+pub chosenFrom-next : (list choice : List ℕ) (n i : ℕ) (r : Record) → r ≡ chosenRecord (bitAt choice i) (recordOf (rowAt list i)) → i < n
+    → chosenFrom list choice n i ≡ r ∷ chosenFrom list choice n (i + 1)
+chosenFrom-next list choice n i r is h = rw (recordsFrom-next list n i h, from-next (bitAt choice) i n h, ← is)
 
 -- ---- one entry
 
--- a new record joins one that a new record joined
-join-news : (m n : ℕ) (l : List Record) → join (New m) (join (New n) l) ≡ join (New (m + n)) l
-join-news m n [] = refl
-join-news m n (New s ∷ l) = ap (λ (k : ℕ). New k ∷ l) (omega arith)
-join-news m n (Match s a ∷ l) = refl
+module _ (list choice : List ℕ) (n k : ℕ) (h : k < n) where
+  run-one : (r : Record) → r ≡ chosenRecord (bitAt choice k) (recordOf (rowAt list k)) → RunOf list choice n k (record { entry = r; next = k + 1 })
+  run-one r is = record { later = omega arith; within = omega arith; stands = rw (chosenFrom-next list choice n k r is h) (entry-one r (chosenFrom list choice n (k + 1))) }
 
-module _ (list choice : List ℕ) (n k : ℕ) (r : Record) (is : r ≡ recordOf (rowAt list k)) (h : k < n) where
-  -- record k is kept
-  pub run-kept : getD choice k 0 ≡ 0 → RunOf list choice n k (record { entry = r; next = k + 1 })
-  run-kept e =
-      let is′ : r ≡ chosenRecord (bitAt choice k) (recordOf (rowAt list k)) = rw e is in
-      record { later = omega arith; within = omega arith; listed = list-split list choice n k r is′ h; sizes = whole-split list choice n k r is′ h }
+  module _ (r : Record) (is : r ≡ recordOf (rowAt list k)) where
+    -- record k is kept
+    pub run-kept : getD choice k 0 ≡ 0 → RunOf list choice n k (record { entry = r; next = k + 1 })
+    run-kept e = run-one r (rw e is)
 
-  -- record k is stored
-  pub run-stored : (s : ℕ) → s ≡ sizeOf r → (getD choice k 0 ≡ 0 → ⊥) → RunOf list choice n k (record { entry = New s; next = k + 1 })
-  run-stored s size e =
-      let is′ : New s ≡ chosenRecord (bitAt choice k) (recordOf (rowAt list k)) = rw (ne-eqb (getD choice k 0) 0 e) (ap New (size ∙ ap sizeOf is)) in
-      record { later = omega arith; within = omega arith; listed = list-split list choice n k (New s) is′ h; sizes = whole-split list choice n k (New s) is′ h }
+    -- record k is stored
+    pub run-stored : (s : ℕ) → s ≡ sizeOf r → (getD choice k 0 ≡ 0 → ⊥) → RunOf list choice n k (record { entry = New s; next = k + 1 })
+    run-stored s size e = run-one (New s) (rw (ne-eqb (getD choice k 0) 0 e) (ap New (size ∙ ap sizeOf is)))
 
 -- and one more
 pub run-more : {list choice : List ℕ} {n i k m s : ℕ} → RunOf list choice n i (record { entry = New m; next = k }) → RunOf list choice n k (record { entry = New s; next = k + 1 })
@@ -71,59 +61,11 @@ run-more {list} {choice} {n} {i} {k} {m} {s} a b =
     record {
       later = omega (arith, a .later);
       within = b .within;
-      listed = a .listed ∙ ap (join (New m)) (b .listed) ∙ join-news m s (listFrom list choice n (k + 1));
-      sizes = omega (arith, a .sizes, b .sizes);
+      stands = record {
+        listed = a .stands .listed ∙ ap (join (New m)) (b .stands .listed) ∙ join-on (New m) (New s) (tidy (chosenFrom list choice n (k + 1))) refl;
+        sizes = omega (arith, a .stands .sizes, b .stands .sizes);
+      };
     }
-
--- ---- the list
-
-pub record Listing (list choice area₀ area : List ℕ) (n i out : ℕ) (o : Open) : Type 0 where
-  pub filling : Filling (encode (listIn list choice)) area₀ area out (encode (ahead o (listFrom list choice n i)))
-  pub sizes : openSize o + whole (recordsFrom list n i) ≤ versionMost
-
-module _ (list choice area₀ : List ℕ) (ready : ListReady list choice area₀) where
-  pub listing-start : Listing list choice area₀ area₀ (length list / 12) 0 0 No
-  listing-start =
-      record {
-        filling = rw (← listFrom-all list choice) (filling-start (encode (listIn list choice)) area₀);
-        sizes = omega (arith, ready .whole-most, ap whole (recordsFrom-all list));
-      }
-
-  module _ (area : List ℕ) (n i out : ℕ) (o : Open) (g : Listing list choice area₀ area n i out o) where
-    -- the next entry, r, stands for the records up to j
-    module _ (r : Record) (j : ℕ) (is : RunOf list choice n i (record { entry = r; next = j })) where
-      to-come : Filling (encode (listIn list choice)) area₀ area out (encode (flushed o r) ++ encode (ahead (opened o r) (listFrom list choice n j)))
-      to-come =
-          rw (is .listed, ahead-join o r (listFrom list choice n j), encode-append (flushed o r) (ahead (opened o r) (listFrom list choice n j))) at (g .filling)
-
-      pub listing-room : out + length (encode (flushed o r)) ≤ length area
-      listing-room = omega (arith, filling-room to-come (ready .room), length-append (encode (flushed o r)) (encode (ahead (opened o r) (listFrom list choice n j))))
-
-      pub listing-size : openSize o + sizeOf r ≤ versionMost
-      listing-size = omega (arith, g .sizes, is .sizes)
-
-      pub listing-next : (area′ : List ℕ) (out′ : ℕ) (o′ : Open) → area′ ≡ pasted out (encode (flushed o r)) area → out′ ≡ out + length (encode (flushed o r)) → o′ ≡ opened o r
-          → Listing list choice area₀ area′ n j out′ o′
-      listing-next area′ out′ o′ e f k =
-          record {
-            filling = rw k (filling-put (encode (flushed o r)) (encode (ahead (opened o r) (listFrom list choice n j))) to-come (ready .room) area′ out′ e f);
-            sizes = omega (arith, g .sizes, is .sizes, open-size o r, ap openSize k);
-          }
-
-    module _ (h : n ≤ i) where
-      last : Filling (encode (listIn list choice)) area₀ area out (encode (pending o) ++ [])
-      last = rw (append-nil (encode (pending o)), ← ahead-none o) (rw (ended) at (g .filling))
-        where
-          ended : listFrom list choice n i ≡ []
-          ended = rw (recordsFrom-none list n i h)
-
-      pub listing-last : out + length (encode (pending o)) ≤ length area
-      listing-last = omega (arith, filling-room last (ready .room), length-append (encode (pending o)) [])
-
-      pub listing-end : (area′ : List ℕ) (out′ : ℕ) → area′ ≡ pasted out (encode (pending o)) area → out′ ≡ out + length (encode (pending o)) → ListWritten list choice area₀ area′ out′
-      listing-end area′ out′ e f =
-          let done = filling-put (encode (pending o)) [] last (ready .room) area′ out′ e f in
-          record { area-after = filling-end done; length-is = filling-out done }
 
 -- ---- the stored block
 
@@ -216,7 +158,7 @@ module _ (list choice v area block : List ℕ) (w : Writable list choice v area 
   list-ready =
       record {
         in-choice = w .in-choice;
-        whole-most = omega (arith, w .in-version, w .version-most);
+        whole-most = omega (arith, whole-tidy (chosen (recordsOf list) (bitsOf (length list / 12) choice)), whole-in, w .in-version, w .version-most);
         room = omega (arith, length-encode (listIn list choice), entries-most, w .in-area);
       }
 

@@ -1,16 +1,16 @@
 -- What is written of a choice: its list and its stored block, each over the front of an area.
 -- Assumes nothing.
-use Prim.Native.Nat.{ℕ, _+_, _-_, _*_, _/_, _≤_, _<_}
+use Prim.Native.Nat.{ℕ, _-_, _*_, _/_, _≤_, _<_}
 use mathlib.Core.Path.{_≡_}
 use mathlib.Core.List.{List}
 use lib.ListN.{length}
 use Rattle.format.specs.declared.Record.{Record}
 use Rattle.format.specs.Limits.{listMost, versionMost}
 use Rattle.format.specs.Record.{from, encode, recordsOf, recordsFrom}
-use Rattle.format.specs.Meaning.{sizeOf, whole, blockOf}
+use Rattle.format.specs.Meaning.{whole, blockOf}
 use Rattle.area.specs.Area.{over}
 use Rattle.price.specs.Price.{news}
-use Rattle.join.specs.Join.{join, tidy}
+use Rattle.emit.specs.Emit.{Entry}
 use Rattle.choice.specs.Choice.{bitAt, bitsOf, chosen, listOf}
 use Rattle.writer.specs.declared.Run.{Run}
 use Rattle.writer.specs.declared.Stored.{Stored}
@@ -22,28 +22,27 @@ listIn list choice = listOf (recordsOf list) (bitsOf (length list / 12) choice)
 abbrev pub blockIn : List ℕ → List ℕ → List ℕ → List ℕ
 blockIn list choice version = blockOf (listIn list choice) version
 
--- the list of the choice from record i on, of n
-abbrev pub listFrom : List ℕ → List ℕ → ℕ → ℕ → List Record
-listFrom list choice n i = tidy (chosen (recordsFrom list n i) (from (bitAt choice) i (n - i)))
+-- what the choice leaves of the records from record i on, of n
+abbrev pub chosenFrom : List ℕ → List ℕ → ℕ → ℕ → List Record
+chosenFrom list choice n i = chosen (recordsFrom list n i) (from (bitAt choice) i (n - i))
 
 -- record i of n, a byte of choice for each, and sizes within a version's greatest length
 pub record RunReady (list choice : List ℕ) (n i : ℕ) : Type 0 where
   pub in-list : 12 * n ≤ length list
   pub in-choice : n ≤ length choice
   pub some : i < n
-  pub most : whole (recordsFrom list n i) ≤ versionMost
+  pub most : whole (chosenFrom list choice n i) ≤ versionMost
 
--- one entry stands for the records from i up to the next, and joins what follows as they do
+-- one entry stands for the records from i up to the next
 pub record RunOf (list choice : List ℕ) (n i : ℕ) (r : Run) : Type 0 where
   pub later : i < r .next
   pub within : r .next ≤ n
-  pub listed : listFrom list choice n i ≡ join (r .entry) (listFrom list choice n (r .next))
-  pub sizes : whole (recordsFrom list n i) ≡ sizeOf (r .entry) + whole (recordsFrom list n (r .next))
+  pub stands : Entry (chosenFrom list choice n i) (r .entry) (chosenFrom list choice n (r .next))
 
 -- a byte of choice for each record, sizes within a version's greatest length, and room
 pub record ListReady (list choice area : List ℕ) : Type 0 where
   pub in-choice : length list / 12 ≤ length choice
-  pub whole-most : whole (recordsOf list) ≤ versionMost
+  pub whole-most : whole (chosen (recordsOf list) (bitsOf (length list / 12) choice)) ≤ versionMost
   pub room : length (encode (listIn list choice)) ≤ length area
 
 pub record ListWritten (list choice area after : List ℕ) (r : ℕ) : Type 0 where

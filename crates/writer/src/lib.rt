@@ -55,12 +55,12 @@ fn write_list(list: &[u8], choice: &[u8], list_area: &mut [u8]) -> usize
     while i < n {
         let r = run_at(list, choice, n, i);
         let entry = r.entry;
-        let e = join::emit(list_area, out, last, entry);
+        let e = emit::emit(list_area, out, last, entry);
         out = e.out;
         last = e.last;
         i = r.next;
     }
-    join::flush(list_area, out, last)
+    emit::flush(list_area, out, last)
 }
 
 // The length of a stored block, and the new entries of its list.

@@ -12,7 +12,7 @@ use Rattle.admit.specs.Admit.{partitionRuling}
 use Rattle.admit.proofs.Admitting.{admitted-of-through}
 use Rattle.writer.proofs.Deciding.{decided-refused, finishable, decided}
 use Rattle.choice.proofs.Least.{least-fits}
-use Rattle.call_partition.specs.Partition.{leastOf}
+use Rattle.choice.specs.Choice.{leastOf}
 use borrow.Author.Needs.{needs}
 use Rattle.call_partition.proofs.partition.Statement.{statement}
 use Rattle.call_partition.proofs.partition.Tie as tie

@@ -3,7 +3,7 @@ use Rattle.price.specs.declared.Price.{Price}
 use Rattle.price.specs.Price.{ratesOf}
 use Rattle.area.specs.Area.{areas}
 use Rattle.admit.specs.Admit.{partitionRuling}
-use Rattle.call_partition.specs.Partition.{leastOf}
+use Rattle.choice.specs.Choice.{leastOf}
 use Rattle.controller.proofs.Answering.{call-short, call-given}
 use borrow.Author.Needs.{needs}
 use Rattle.controller.proofs.partition.Statement.{statement}

@@ -27,7 +27,7 @@ add-t11 c = omega (arith, c .before .before .before .before .before .pre .some)
 returns : tie.Need-returns Inv-loop μ-loop
 returns c =
     let g = (c .before .before .before .before .before .args) in
-    run-kept (g .list .now) (g .choice .now) (g .n) (g .i) (c .before .before .record-at .result) (c .before .before .record-at .ensures) (c .before .before .before .before .before .pre .some) (c .if1 .taken)
+    run-kept (g .list .now) (g .choice .now) (g .n) (g .i) (c .before .before .before .before .before .pre .some) (c .before .before .record-at .result) (c .before .before .record-at .ensures) (c .if1 .taken)
 
 size-of-requires : tie.Need-size-of-requires Inv-loop μ-loop
 size-of-requires c κs = search needs
@@ -38,7 +38,7 @@ add-k c = omega (arith, c .before .before .before .before .before .before .pre .
 loop-holds : tie.Need-loop-holds Inv-loop μ-loop
 loop-holds c =
     let g = (c .before .before .before .before .before .before .args) in
-    run-stored (g .list .now) (g .choice .now) (g .n) (g .i) (c .before .before .before .record-at .result) (c .before .before .before .record-at .ensures) (c .before .before .before .before .before .before .pre .some) (c .size-of .result) (c .size-of .ensures) (c .before .if1 .left)
+    run-stored (g .list .now) (g .choice .now) (g .n) (g .i) (c .before .before .before .before .before .before .pre .some) (c .before .before .before .record-at .result) (c .before .before .before .record-at .ensures) (c .size-of .result) (c .size-of .ensures) (c .before .if1 .left)
 
 shared-slice-read-if2 : tie.Need-shared-slice-read-if2 Inv-loop μ-loop
 shared-slice-read-if2 c = omega (arith, c .before .before .before .before .before .before .before .before .before .pre .in-choice)
@@ -52,11 +52,18 @@ record-at-requires-2 c κs = omega (arith, c .before .before .before .before .be
 size-of-requires-2 : tie.Need-size-of-requires-2 Inv-loop μ-loop
 size-of-requires-2 c κs = search needs
 
+-- record k is stored too
+stored-too : (c : tie.After-size-of2 Inv-loop μ-loop) → let g = c .before .before .before .before .before .before .before .before .before .before .before .before .args in
+    let l = c .before .before .before .before .before .loop in
+    RunOf (g .list .now) (g .choice .now) (g .n) (l .k) (record { entry = New (c .size-of2 .result); next = l .k + 1 })
+stored-too c =
+    let g = c .before .before .before .before .before .before .before .before .before .before .before .before .args in
+    let l = c .before .before .before .before .before .loop in
+    run-stored (g .list .now) (g .choice .now) (g .n) (l .k) (omega arith) (c .before .record-at2 .result) (c .before .record-at2 .ensures) (c .size-of2 .result) (c .size-of2 .ensures) (c .before .before .if2 .left)
+
 add-size : tie.Need-add-size Inv-loop μ-loop
 add-size c =
-    let g = (c .before .before .before .before .before .before .before .before .before .before .before .before .args) in
-    let l = (c .before .before .before .before .before .loop) in
-    omega (arith, c .before .before .before .before .before .before .before .before .before .before .before .before .pre .most, l .inv .sizes, run-stored (g .list .now) (g .choice .now) (g .n) (l .k) (c .before .record-at2 .result) (c .before .record-at2 .ensures) (omega arith) (c .size-of2 .result) (c .size-of2 .ensures) (c .before .before .if2 .left) .sizes)
+    omega (arith, c .before .before .before .before .before .before .before .before .before .before .before .before .pre .most, c .before .before .before .before .before .loop .inv .stands .sizes, stored-too c .stands .sizes)
 
 add-k-2 : tie.Need-add-k-2 Inv-loop μ-loop
 add-k-2 c = search needs
@@ -65,10 +72,7 @@ loop-less : tie.Need-loop-less Inv-loop μ-loop
 loop-less c = search needs
 
 loop-again : tie.Need-loop-again Inv-loop μ-loop
-loop-again c =
-    let g = (c .before .before .before .before .before .before .before .before .before .before .before .before .args) in
-    let l = (c .before .before .before .before .before .loop) in
-    run-more (l .inv) (run-stored (g .list .now) (g .choice .now) (g .n) (l .k) (c .before .record-at2 .result) (c .before .record-at2 .ensures) (omega arith) (c .size-of2 .result) (c .size-of2 .ensures) (c .before .before .if2 .left))
+loop-again c = run-more (c .before .before .before .before .before .loop .inv) (stored-too c)
 
 returns-3 : tie.Need-returns-3 Inv-loop μ-loop
 returns-3 c = c .before .loop .inv

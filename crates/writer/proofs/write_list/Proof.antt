@@ -3,21 +3,26 @@
 use Prim.Native.Nat.{_-_, _/_, _≤_}
 use native.Mathlib.Omega.{arith}
 use lib.ListN.{length}
-use Rattle.writer.proofs.Writing.{Listing, listing-start, listing-room, listing-size, listing-next, listing-last, listing-end}
+use Rattle.format.specs.Record.{recordsOf}
+use Rattle.choice.specs.Choice.{chosen, bitsOf}
+use Rattle.emit.proofs.Listing.{Listing, listing-start, listing-room, listing-size, listing-next, listing-last, listing-end}
+use Rattle.writer.specs.Write.{chosenFrom}
+use Rattle.writer.proofs.Writing.{chosenFrom-all, chosenFrom-none}
 use borrow.Author.Needs.{needs}
 use Rattle.writer.proofs.write_list.Statement.{statement}
 use Rattle.writer.proofs.write_list.Tie as tie
 
 abbrev Inv-loop : tie.InvT-loop
-Inv-loop list choice area₀ n out₀ last₀ i₀ area out last i = (i ≤ n) × Listing list choice area₀ area n i out last
+Inv-loop list choice area₀ n out₀ last₀ i₀ area out last i = (i ≤ n) × Listing (chosen (recordsOf list) (bitsOf (length list / 12) choice)) area₀ area out last (chosenFrom list choice n i)
 
 abbrev μ-loop : tie.MeasureT-loop
 μ-loop list choice area₀ n out₀ last₀ i₀ area out last i = n - i
 
 loop-holds : tie.Need-loop-holds Inv-loop μ-loop
 loop-holds c =
-    let g = (c .before .before .before .args) in
-    (omega arith, listing-start (g .list .now) (g .choice .now) (g .list-area .now) (c .before .before .before .pre))
+    let g = c .before .before .before .args in
+    let l = chosen (recordsOf (g .list .now)) (bitsOf (length (g .list .now) / 12) (g .choice .now)) in
+    (omega arith, rw (chosenFrom-all (g .list .now) (g .choice .now)) (listing-start l (g .list-area .now) (c .before .before .before .pre .whole-most)))
 
 run-at-requires : tie.Need-run-at-requires Inv-loop μ-loop
 run-at-requires c κs =
@@ -25,40 +30,39 @@ run-at-requires c κs =
 
 emit-requires : tie.Need-emit-requires Inv-loop μ-loop
 emit-requires c κs =
-    let g = (c .before .before .before .before .before .before .before .args) in
-    let l = (c .before .before .before .loop) in
-    let r = (c .before .run-at) in
-    let n = length (g .list .now) / 12 in
-    (listing-room (g .list .now) (g .choice .now) (g .list-area .now) (c .before .before .before .before .before .before .before .pre) (l .list-area) n (l .i) (l .out) (l .last) (l .inv .1) (r .result .entry) (r .result .next) (r .ensures), omega (arith, listing-size (g .list .now) (g .choice .now) (g .list-area .now) (c .before .before .before .before .before .before .before .pre) (l .list-area) n (l .i) (l .out) (l .last) (l .inv .1) (r .result .entry) (r .result .next) (r .ensures)))
+    let room = c .before .before .before .before .before .before .before .pre .room in
+    let g = c .before .before .before .loop .inv .1 in
+    let e = c .before .run-at .ensures .stands in
+    (listing-room room g e, omega (arith, listing-size room g e))
 
 loop-less : tie.Need-loop-less Inv-loop μ-loop
 loop-less c = omega (arith, c .before .before .before .before .run-at .ensures .later, c .before .before .before .before .run-at .ensures .within)
 
 loop-again : tie.Need-loop-again Inv-loop μ-loop
 loop-again c =
-    let g = (c .before .before .before .before .before .before .before .before .before .before .args) in
-    let l = (c .before .before .before .before .before .before .loop) in
-    let r = (c .before .before .before .before .run-at) in
-    let e = (c .before .before .emit) in
-    let n = length (g .list .now) / 12 in
-    (r .ensures .within, listing-next (g .list .now) (g .choice .now) (g .list-area .now) (c .before .before .before .before .before .before .before .before .before .before .pre) (l .list-area) n (l .i) (l .out) (l .last) (l .inv .1) (r .result .entry) (r .result .next) (r .ensures) _ _ _ (e .ensures .area-after) (e .ensures .out-is) (e .ensures .last-is))
+    let room = c .before .before .before .before .before .before .before .before .before .before .pre .room in
+    let r = c .before .before .before .before .run-at .ensures in
+    let e = c .before .before .emit .ensures in
+    (r .within, listing-next room (c .before .before .before .before .before .before .loop .inv .1) (r .stands) (e .area-after) (e .out-is) (e .last-is))
 
+-- after the loop none is to come
 flush-requires : tie.Need-flush-requires Inv-loop μ-loop
 flush-requires c κs =
-    let g = (c .before .before .before .before .before .before .args) in
-    let l = (c .before .before .loop) in
-    let n = length (g .list .now) / 12 in
-    listing-last (g .list .now) (g .choice .now) (g .list-area .now) (c .before .before .before .before .before .before .pre) (l .list-area) n (l .i) (l .out) (l .last) (l .inv .1) (omega arith)
+    let g = c .before .before .before .before .before .before .args in
+    let l = c .before .before .loop in
+    listing-last (c .before .before .before .before .before .before .pre .room) (l .inv .1) (chosenFrom-none (g .list .now) (g .choice .now) (length (g .list .now) / 12) (l .i) (omega arith))
 
 same-length : tie.Need-same-length Inv-loop μ-loop
 same-length c = omega (arith, c .before .before .before .before .before .loop .inv .1 .filling .same)
 
 returns : tie.Need-returns Inv-loop μ-loop
 returns c =
-    let g = (c .before .before .before .before .before .before .before .before .before .args) in
-    let l = (c .before .before .before .before .before .loop) in
-    let n = length (g .list .now) / 12 in
-    listing-end (g .list .now) (g .choice .now) (g .list-area .now) (c .before .before .before .before .before .before .before .before .before .pre) (l .list-area) n (l .i) (l .out) (l .last) (l .inv .1) (omega arith) _ _ (c .before .before .flush .ensures .1) (c .before .before .flush .ensures .0)
+    let g = c .before .before .before .before .before .before .before .before .before .args in
+    let l = c .before .before .before .before .before .loop in
+    let none = chosenFrom-none (g .list .now) (g .choice .now) (length (g .list .now) / 12) (l .i) (omega arith) in
+    let f = c .before .before .flush .ensures in
+    let end = listing-end (c .before .before .before .before .before .before .before .before .before .pre .room) (l .inv .1) none (f .1) (f .0) in
+    record { area-after = end .0; length-is = end .1 }
 
 pub write-list-spec : {M : Type 1} → statement M
 write-list-spec =

@@ -1,11 +1,11 @@
--- `join::emit` meets its contract: no record is open, the two join, or the open one is written. Assumes nothing.
+-- `emit::emit` meets its contract: no record is open, the two join, or the open one is written. Assumes nothing.
 use native.Mathlib.Omega.{arith}
 use mathlib.Core.Path.{sym, _∙_, ap}
 use Rattle.join.specs.Join.{grown}
-use Rattle.join.proofs.Emitting.{emits-first, emits-joint, emits-room, emits-written}
+use Rattle.emit.proofs.Emitting.{emits-first, emits-joint, emits-room, emits-written}
 use borrow.Author.Needs.{needs}
-use Rattle.join.proofs.emit.Statement.{statement}
-use Rattle.join.proofs.emit.Tie as tie
+use Rattle.emit.proofs.emit.Statement.{statement}
+use Rattle.emit.proofs.emit.Tie as tie
 
 enum-known-last : tie.Need-enum-known-last
 enum-known-last c = search needs

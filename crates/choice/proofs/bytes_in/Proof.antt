@@ -1,10 +1,10 @@
--- `sweep::bytes_in` meets its contract, by the kind. Assumes nothing.
+-- `choice::bytes_in` meets its contract, by the kind. Assumes nothing.
 use native.Mathlib.Omega.{arith}
 use mathlib.Core.Path.{sym, _∙_, ap}
 use Rattle.choice.specs.Path.{bytesIn}
 use borrow.Author.Needs.{needs}
-use Rattle.sweep.proofs.bytes_in.Statement.{statement}
-use Rattle.sweep.proofs.bytes_in.Tie as tie
+use Rattle.choice.proofs.bytes_in.Statement.{statement}
+use Rattle.choice.proofs.bytes_in.Tie as tie
 
 enum-known-record : tie.Need-enum-known-record
 enum-known-record c = search needs

@@ -1,10 +1,10 @@
--- `sweep::added` meets its contract: the two join, or they do not. Assumes nothing.
+-- `choice::added` meets its contract: the two join, or they do not. Assumes nothing.
 use native.Mathlib.Omega.{arith}
 use mathlib.Core.Path.{sym, _∙_}
-use Rattle.sweep.proofs.Sweeping.{adds-joined, adds-apart}
+use Rattle.choice.proofs.Pricing.{adds-joined, adds-apart}
 use borrow.Author.Needs.{needs}
-use Rattle.sweep.proofs.added.Statement.{statement}
-use Rattle.sweep.proofs.added.Tie as tie
+use Rattle.choice.proofs.added.Statement.{statement}
+use Rattle.choice.proofs.added.Tie as tie
 
 bytes-in-requires : tie.Need-bytes-in-requires
 bytes-in-requires c κs = search needs

@@ -1,10 +1,10 @@
--- One record taken in by the open one: none is open, the two join, or the open one is written; and the open record before the rest of a list.
+-- One record taken in by the open one: none is open, the two join, or the open one is written.
 -- Assumes nothing.
 use Prim.Native.Nat.{ℕ, _+_, _≤_}
 use native.Mathlib.Omega.{arith}
 use mathlib.Core.Path.{_≡_, refl, sym, _∙_, ap}
-use mathlib.Core.Bool.{Bool, true, false, cond}
-use mathlib.Core.List.{List, [], _∷_, _++_, append-nil}
+use mathlib.Core.Bool.{true, false}
+use mathlib.Core.List.{List, [], _∷_, append-nil}
 use lib.ListN.{length}
 use Rattle.format.specs.declared.Record.{Record}
 use Rattle.format.specs.Record.{bytesOf, encode}
@@ -12,38 +12,12 @@ use Rattle.format.specs.Meaning.{sizeOf}
 use Rattle.format.proofs.Encoding.{length-bytes}
 use Rattle.area.specs.Area.{pasted}
 use Rattle.area.proofs.Pasting.{pasted-none}
 use Rattle.join.specs.declared.Open.{Open}
 use Rattle.join.specs.declared.Open.the-variants.{No, One}
-use Rattle.join.specs.Join.{joins, grown, join}
-use Rattle.join.specs.Emit.{pending, openSize, flushed, opened, Emits}
-use Rattle.join.proofs.Joining.{size-grown, join-on, join-off}
+use Rattle.join.specs.Join.{joins, grown}
+use Rattle.join.specs.Open.{flushed, opened}
+use Rattle.emit.specs.Emit.{Emits}
 
--- the open record before a list
-abbrev pub ahead : Open → List Record → List Record
-ahead No l = l
-ahead (One r) l = join r l
-
-pub ahead-none : (o : Open) → ahead o [] ≡ pending o
-ahead-none No = refl
-ahead-none (One r) = refl
-
-pub ahead-join : (o : Open) (r : Record) (l : List Record) → ahead o (join r l) ≡ flushed o r ++ ahead (opened o r) l
-ahead-join No r l = refl
-ahead-join (One q) r l = go (joins q r) refl
-  where
-    go : (x : Bool) → joins q r ≡ x → join q (join r l) ≡ cond x [] (q ∷ []) ++ join (cond x (grown q (sizeOf r)) r) l
-    go true e = join-on q r l e
-    go false e = join-off q r l e
-
-pub open-size : (o : Open) (r : Record) → openSize (opened o r) ≤ openSize o + sizeOf r
-open-size No r = omega arith
-open-size (One q) r = go (joins q r)
-  where
-    go : (x : Bool) → sizeOf (cond x (grown q (sizeOf r)) r) ≤ sizeOf q + sizeOf r
-    go true = omega (arith, size-grown q (sizeOf r))
-    go false = omega arith
-
--- ---- one record taken in: none is open, the two join, or the open one is written
 module _ (area : List ℕ) (out : ℕ) (o : Open) (r : Record) where
   pub emits-first : o ≡ No → Emits area out o r (record { out = out; last = One r }) area
   emits-first e = rw e (record { out-is = omega arith; last-is = refl; area-after = pasted-none out area })

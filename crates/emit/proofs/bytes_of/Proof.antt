@@ -1,8 +1,8 @@
--- `join::bytes_of` meets its contract. Assumes nothing.
+-- `emit::bytes_of` meets its contract. Assumes nothing.
 use mathlib.Core.Path.{_∙_}
 use borrow.Author.Needs.{needs}
-use Rattle.join.proofs.bytes_of.Statement.{statement}
-use Rattle.join.proofs.bytes_of.Tie as tie
+use Rattle.emit.proofs.bytes_of.Statement.{statement}
+use Rattle.emit.proofs.bytes_of.Tie as tie
 
 enum-known-record : tie.Need-enum-known-record
 enum-known-record c = search needs

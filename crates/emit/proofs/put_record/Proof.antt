@@ -1,11 +1,11 @@
--- `join::put_record` meets its contract. Assumes nothing.
+-- `emit::put_record` meets its contract. Assumes nothing.
 use Prim.Native.Nat.{ℕ}
 use mathlib.Core.Path.{_∙_, ap}
 use mathlib.Core.List.{List}
 use Rattle.area.specs.Area.{pasted}
 use borrow.Author.Needs.{needs}
-use Rattle.join.proofs.put_record.Statement.{statement}
-use Rattle.join.proofs.put_record.Tie as tie
+use Rattle.emit.proofs.put_record.Statement.{statement}
+use Rattle.emit.proofs.put_record.Tie as tie
 
 bytes-of-requires : tie.Need-bytes-of-requires
 bytes-of-requires c κs = search needs

@@ -1,12 +1,12 @@
--- `join::flush` meets its contract. Assumes nothing.
+-- `emit::flush` meets its contract. Assumes nothing.
 use native.Mathlib.Omega.{arith}
 use mathlib.Core.List.{append-nil}
 use Rattle.format.specs.Record.{bytesOf}
 use Rattle.format.proofs.Encoding.{length-bytes}
 use Rattle.area.proofs.Pasting.{pasted-none}
 use borrow.Author.Needs.{needs}
-use Rattle.join.proofs.flush.Statement.{statement}
-use Rattle.join.proofs.flush.Tie as tie
+use Rattle.emit.proofs.flush.Statement.{statement}
+use Rattle.emit.proofs.flush.Tie as tie
 
 enum-known-last : tie.Need-enum-known-last
 enum-known-last c = search needs
