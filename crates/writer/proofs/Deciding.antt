@@ -12,19 +12,20 @@ use Rattle.format.specs.declared.Refusal.{Refusal}
 use Rattle.format.specs.declared.Answer.{Answer}
 use Rattle.format.specs.declared.Answer.the-variants.{Accepted, Refused}
 use Rattle.format.specs.Refusal.{Accepts, figuresIn}
-use Rattle.format.specs.Limits.{listMost, versionMost}
 use Rattle.format.specs.Record.{recordsOf, encode}
 use Rattle.format.specs.Meaning.{whole, stored, blockOf}
 use Rattle.format.proofs.Rulings.{fine-of-accepts}
 use Rattle.format.proofs.Rows.{length-recordsOf}
 use Rattle.format.proofs.Encoding.{length-encode}
 use Rattle.format.proofs.Rebuilding.{length-block}
+use Rattle.price.specs.declared.Price.{Price}
 use Rattle.price.specs.declared.Rates.{Rates}
-use Rattle.price.specs.Price.{RatesFit}
+use Rattle.price.specs.Price.{ratesOf}
 use Rattle.area.specs.Area.{over, Areas, areas}
 use Rattle.area.proofs.Filling.{front, front-room}
 use Rattle.choice.specs.Choice.{Bit, bitBytes, bitsOf, IsChoice, listOf}
 use Rattle.choice.proofs.Lists.{length-choice, bits-over}
+use Rattle.admit.proofs.Admitting.{Sound}
 use Rattle.writer.specs.Write.{listIn}
 use Rattle.writer.specs.Decide.{figures, laid, Decided, Finishable, Finished}
 
@@ -32,14 +33,20 @@ pub decided-refused : {q : Ruling} {x : Refusal} {r : Answer} (rates : Rates) (l
     → Decided q rates list v c looks before r before
 decided-refused rates list v c looks before e f = record { answered = rw e f; areas-after = rw e }
 
--- a choice area of the same length takes the first one's place
-pub finishable : {rates : Rates} {list v area block : List ℕ} (choice choice′ : List ℕ) → RatesFit rates → length list ≤ listMost → length v ≤ versionMost → whole (recordsOf list) ≡ length v
-    → length list / 12 ≤ length choice → length list ≤ length area → length v ≤ length block → length choice′ ≡ length choice
-    → Finishable rates list choice′ v area block
-finishable choice choice′ h l m w c a b k =
+-- admitted inputs can be finished with a choice in an area that is no shorter than the one that was admitted
+pub finishable : {price : Price} {list v st : List ℕ} {rates : Rates} {n : ℕ} {choice area block : List ℕ} → Sound price list v st n (length area) (length block) → rates ≡ ratesOf price
+    → n ≤ length choice → Finishable rates list choice v area block
+finishable s e h =
     record {
-      rates-fit = h;
-      writable = record { list-most = l; version-most = m; in-version = omega (arith, w); in-choice = omega (arith, c, k); in-area = a; in-block = b };
+      rates-fit = rw e (s .inputs .rates-fit);
+      writable = record {
+        list-most = s .inputs .counted .list-most;
+        version-most = s .inputs .version-most;
+        in-version = omega (arith, s .covered .whole-is);
+        in-choice = omega (arith, s .in-choice, h);
+        in-area = s .in-area;
+        in-block = s .in-block;
+      };
     }
 
 -- the list of a choice area that begins with the choice c

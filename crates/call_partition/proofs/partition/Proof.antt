@@ -1,18 +1,16 @@
 -- `call_partition::partition` meets its contract: refused as the checks say, or the least choice and what is written of it. Assumes nothing.
 use native.Mathlib.Omega.{arith}
-use mathlib.Core.Path.{sym, _∙_, ap}
+use mathlib.Core.Path.{refl, sym, _∙_}
 use lib.ListN.{length}
-use Rattle.format.specs.declared.Answer.the-variants.{Refused}
 use Rattle.format.specs.Record.{recordsOf}
 use Rattle.price.specs.Price.{ratesOf}
-use Rattle.walk.specs.Walked.{refusalOf}
-use Rattle.walk.proofs.Telling.{stop-of-stopped}
+use Rattle.walk.proofs.Telling.{stop-of-refusal}
 use Rattle.area.specs.Area.{areas}
-use Rattle.admit.specs.Admit.{partitionRuling}
-use Rattle.admit.proofs.Admitting.{admitted-of-through}
-use Rattle.writer.proofs.Deciding.{decided-refused, finishable, decided}
-use Rattle.choice.proofs.Least.{least-fits}
 use Rattle.choice.specs.Choice.{leastOf}
+use Rattle.choice.proofs.Least.{least-fits}
+use Rattle.admit.specs.Admit.{partitionRuling}
+use Rattle.admit.proofs.Admitting.{Admitted, admitted-of-through}
+use Rattle.writer.proofs.Deciding.{decided-refused, finishable, decided}
 use borrow.Author.Needs.{needs}
 use Rattle.call_partition.proofs.partition.Statement.{statement}
 use Rattle.call_partition.proofs.partition.Tie as tie
@@ -33,23 +31,25 @@ returns : tie.Need-returns
 returns c =
     let g = c .before .before .before .before .before .before .before .before .before .before .args in
     let before = areas (g .choice .now) (g .list-area .now) (g .block-area .now) in
-    let stop = stop-of-stopped (partitionRuling (g .price) (g .list .now) (g .version .now) (g .store .now) before) (recordsOf (g .list .now)) (c .before .enum-told .given .0 .0) (sym (c .before .before .before .admit .ensures) ∙ c .before .enum-told .given .1) in
-    decided-refused (ratesOf (g .price)) (g .list .now) (g .version .now) (leastOf (g .price) (g .list .now)) 0 before stop (ap Refused (c .refusal-of .ensures ∙ ap refusalOf (c .before .enum-told .given .1)))
+    let ruling = partitionRuling (g .price) (g .list .now) (g .version .now) (g .store .now) before in
+    let stop = stop-of-refusal ruling (recordsOf (g .list .now)) (c .before .before .before .admit .ensures) (c .before .enum-told .given .1) (c .refusal-of .ensures) in
+    decided-refused (ratesOf (g .price)) (g .list .now) (g .version .now) (leastOf (g .price) (g .list .now)) 0 before stop refl
+
+-- all checks have passed
+passed : (c : tie.After-w) → let g = c .before .before .before .before .before .before .before .before .before .args in
+    Admitted (g .price) (g .list .now) (g .version .now) (g .store .now) (length (g .choice .now)) (length (g .list-area .now)) (length (g .block-area .now))
+passed c = admitted-of-through _ _ _ _ _ _ _ (c .w .given .0 .0) (sym (c .before .before .admit .ensures) ∙ c .w .given .1)
 
 rates-of-requires : tie.Need-rates-of-requires
 rates-of-requires c κs = search needs
 
 least-choice-requires : tie.Need-least-choice-requires
 least-choice-requires c κs =
-    let g = c .before .before .before .before .before .before .before .before .before .before .before .before .args in
-    let s = admitted-of-through (g .price) (g .list .now) (g .version .now) (g .store .now) (length (g .choice .now)) (length (g .list-area .now)) (length (g .block-area .now)) (c .before .before .before .w .given .0 .0) (sym (c .before .before .before .before .before .admit .ensures) ∙ c .before .before .before .w .given .1) .sound in
-    record { rates-fit = rw (c .before .rates-of .ensures) (s .rates-fit); n-most = omega (arith, s .counted .list-most); in-list = omega arith; in-choice = s .in-choice }
+    let s = passed (c .before .before .before) .sound in
+    record { rates-fit = rw (c .before .rates-of .ensures) (s .inputs .rates-fit); n-most = omega (arith, s .inputs .counted .list-most); in-list = omega arith; in-choice = s .in-choice }
 
 finish-requires : tie.Need-finish-requires
-finish-requires c κs =
-    let g = c .before .before .before .before .before .before .before .before .before .before .before .before .before .before .before .before .before .before .args in
-    let s = admitted-of-through (g .price) (g .list .now) (g .version .now) (g .store .now) (length (g .choice .now)) (length (g .list-area .now)) (length (g .block-area .now)) (c .before .before .before .before .before .before .before .before .before .w .given .0 .0) (sym (c .before .before .before .before .before .before .before .before .before .before .before .admit .ensures) ∙ c .before .before .before .before .before .before .before .before .before .w .given .1) .sound in
-    finishable (g .choice .now) _ (rw (c .before .before .before .before .before .before .before .rates-of .ensures) (s .rates-fit)) (s .counted .list-most) (s .version-most) (s .whole-is) (s .in-choice) (s .in-area) (s .in-block) (search needs)
+finish-requires c κs = finishable (passed (c .before .before .before .before .before .before .before .before .before) .sound) (c .before .before .before .before .before .before .before .rates-of .ensures) (search needs)
 
 same-length : tie.Need-same-length
 same-length c = search needs
@@ -63,9 +63,9 @@ same-length-3 c = search needs
 returns-2 : tie.Need-returns-2
 returns-2 c =
     let g = c .before .before .before .before .before .before .before .before .before .before .before .before .before .before .before .before .before .before .before .before .before .before .before .args in
-    let x = admitted-of-through (g .price) (g .list .now) (g .version .now) (g .store .now) (length (g .choice .now)) (length (g .list-area .now)) (length (g .block-area .now)) (c .before .before .before .before .before .before .before .before .before .before .before .before .before .before .w .given .0 .0) (sym (c .before .before .before .before .before .before .before .before .before .before .before .before .before .before .before .before .admit .ensures) ∙ c .before .before .before .before .before .before .before .before .before .before .before .before .before .before .w .given .1) in
-    let chosen = rw (c .before .before .before .before .before .before .before .before .before .before .before .before .rates-of .ensures) at (c .before .before .before .before .before .before .before .before .before .before .least-choice .ensures) in
-    decided (x .fine) (least-fits (ratesOf (g .price)) (recordsOf (g .list .now))) (chosen .area) (rw (c .before .before .before .before .before .before .before .before .before .before .before .before .rates-of .ensures) at (c .before .before .before .before .finish .ensures))
+    let rates = c .before .before .before .before .before .before .before .before .before .before .before .before .rates-of .ensures in
+    let chosen = rw rates at (c .before .before .before .before .before .before .before .before .before .before .least-choice .ensures) in
+    decided (passed (c .before .before .before .before .before .before .before .before .before .before .before .before .before .before) .fine) (least-fits (ratesOf (g .price)) (recordsOf (g .list .now))) (chosen .area) (rw rates at (c .before .before .before .before .finish .ensures))
 
 pub partition-spec : {M : Type 1} → statement M
 partition-spec =

@@ -1,15 +1,13 @@
 -- `call_pass::pass` meets its contract: refused as the checks say, or the choice that the machine leaves and what is written of it. Assumes nothing.
 use native.Mathlib.Omega.{arith}
-use mathlib.Core.Path.{sym, _∙_, ap}
+use mathlib.Core.Path.{refl, sym, _∙_}
 use lib.ListN.{length}
-use Rattle.format.specs.declared.Answer.the-variants.{Refused}
 use Rattle.format.specs.Record.{recordsOf}
 use Rattle.price.specs.Price.{ratesOf}
-use Rattle.walk.specs.Walked.{refusalOf}
-use Rattle.walk.proofs.Telling.{stop-of-stopped}
+use Rattle.walk.proofs.Telling.{stop-of-refusal}
 use Rattle.area.specs.Area.{areas}
 use Rattle.admit.specs.Admit.{partitionRuling}
-use Rattle.admit.proofs.Admitting.{admitted-of-through}
+use Rattle.admit.proofs.Admitting.{Admitted, admitted-of-through}
 use Rattle.writer.proofs.Deciding.{decided-refused, finishable, decided}
 use Rattle.linear.proofs.Theorems.{pass-holds}
 use Rattle.call_pass.specs.Pass.{passChoiceOf, passLooksOf}
@@ -33,29 +31,32 @@ returns : tie.Need-returns
 returns c =
     let g = c .before .before .before .before .before .before .before .before .before .before .args in
     let before = areas (g .choice .now) (g .list-area .now) (g .block-area .now) in
-    let stop = stop-of-stopped (partitionRuling (g .price) (g .list .now) (g .version .now) (g .store .now) before) (recordsOf (g .list .now)) (c .before .enum-told .given .0 .0) (sym (c .before .before .before .admit .ensures) ∙ c .before .enum-told .given .1) in
-    record { decided = decided-refused (ratesOf (g .price)) (g .list .now) (g .version .now) (passChoiceOf (g .price) (g .list .now)) (passLooksOf (g .price) (g .list .now)) before stop (ap Refused (c .refusal-of .ensures ∙ ap refusalOf (c .before .enum-told .given .1))); few-looks = omega arith }
+    let ruling = partitionRuling (g .price) (g .list .now) (g .version .now) (g .store .now) before in
+    let stop = stop-of-refusal ruling (recordsOf (g .list .now)) (c .before .before .before .admit .ensures) (c .before .enum-told .given .1) (c .refusal-of .ensures) in
+    let choice = passChoiceOf (g .price) (g .list .now) in
+    record { decided = decided-refused (ratesOf (g .price)) (g .list .now) (g .version .now) choice (passLooksOf (g .price) (g .list .now)) before stop refl; few-looks = omega arith }
+
+-- all checks have passed
+passed : (c : tie.After-w) → let g = c .before .before .before .before .before .before .before .before .before .args in
+    Admitted (g .price) (g .list .now) (g .version .now) (g .store .now) (length (g .choice .now)) (length (g .list-area .now)) (length (g .block-area .now))
+passed c = admitted-of-through _ _ _ _ _ _ _ (c .w .given .0 .0) (sym (c .before .before .admit .ensures) ∙ c .w .given .1)
 
 rates-of-requires : tie.Need-rates-of-requires
 rates-of-requires c κs = search needs
 
 pass-choice-requires : tie.Need-pass-choice-requires
 pass-choice-requires c κs =
-    let g = c .before .before .before .before .before .before .before .before .before .before .before .before .args in
-    let s = admitted-of-through (g .price) (g .list .now) (g .version .now) (g .store .now) (length (g .choice .now)) (length (g .list-area .now)) (length (g .block-area .now)) (c .before .before .before .w .given .0 .0) (sym (c .before .before .before .before .before .admit .ensures) ∙ c .before .before .before .w .given .1) .sound in
+    let s = passed (c .before .before .before) .sound in
     record {
-      rates-fit = rw (c .before .rates-of .ensures) (s .rates-fit);
-      list-most = s .counted .list-most;
-      room = omega (arith, s .in-choice, s .counted .whole-records);
-      sized = s .well-formed .sized;
-      whole-most = omega (arith, s .whole-is, s .version-most);
+      rates-fit = rw (c .before .rates-of .ensures) (s .inputs .rates-fit);
+      list-most = s .inputs .counted .list-most;
+      room = omega (arith, s .in-choice, s .inputs .counted .whole-records);
+      sized = s .covered .well-formed .sized;
+      whole-most = omega (arith, s .covered .whole-is, s .inputs .version-most);
     }
 
 finish-requires : tie.Need-finish-requires
-finish-requires c κs =
-    let g = c .before .before .before .before .before .before .before .before .before .before .before .before .before .before .before .before .before .before .args in
-    let s = admitted-of-through (g .price) (g .list .now) (g .version .now) (g .store .now) (length (g .choice .now)) (length (g .list-area .now)) (length (g .block-area .now)) (c .before .before .before .before .before .before .before .before .before .w .given .0 .0) (sym (c .before .before .before .before .before .before .before .before .before .before .before .admit .ensures) ∙ c .before .before .before .before .before .before .before .before .before .w .given .1) .sound in
-    finishable (g .choice .now) _ (rw (c .before .before .before .before .before .before .before .rates-of .ensures) (s .rates-fit)) (s .counted .list-most) (s .version-most) (s .whole-is) (s .in-choice) (s .in-area) (s .in-block) (search needs)
+finish-requires c κs = finishable (passed (c .before .before .before .before .before .before .before .before .before) .sound) (c .before .before .before .before .before .before .before .rates-of .ensures) (search needs)
 
 same-length : tie.Need-same-length
 same-length c = search needs
@@ -69,10 +70,11 @@ same-length-3 c = search needs
 returns-2 : tie.Need-returns-2
 returns-2 c =
     let g = c .before .before .before .before .before .before .before .before .before .before .before .before .before .before .before .before .before .before .before .before .before .before .before .args in
-    let x = admitted-of-through (g .price) (g .list .now) (g .version .now) (g .store .now) (length (g .choice .now)) (length (g .list-area .now)) (length (g .block-area .now)) (c .before .before .before .before .before .before .before .before .before .before .before .before .before .before .w .given .0 .0) (sym (c .before .before .before .before .before .before .before .before .before .before .before .before .before .before .before .before .admit .ensures) ∙ c .before .before .before .before .before .before .before .before .before .before .before .before .before .before .w .given .1) in
-    let holds = pass-holds (ratesOf (g .price)) (recordsOf (g .list .now)) (x .sound .well-formed .sized) in
-    let chosen = rw (c .before .before .before .before .before .before .before .before .before .before .before .before .rates-of .ensures) at (c .before .before .before .before .before .before .before .before .before .before .pass-choice .ensures) in
-    let made = rw (c .before .before .before .before .before .before .before .before .before .before .before .before .rates-of .ensures, chosen .looks-are) at (c .before .before .before .before .finish .ensures) in
+    let x = passed (c .before .before .before .before .before .before .before .before .before .before .before .before .before .before) in
+    let holds = pass-holds (ratesOf (g .price)) (recordsOf (g .list .now)) (x .sound .covered .well-formed .sized) in
+    let rates = c .before .before .before .before .before .before .before .before .before .before .before .before .rates-of .ensures in
+    let chosen = rw rates at (c .before .before .before .before .before .before .before .before .before .before .pass-choice .ensures) in
+    let made = rw (rates, chosen .looks-are) at (c .before .before .before .before .finish .ensures) in
     record { decided = decided (x .fine) (holds .choice) (chosen .area) made; few-looks = rw (made .answered) (holds .few) }
 
 pub pass-spec : {M : Type 1} → statement M

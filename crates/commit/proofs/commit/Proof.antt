@@ -3,14 +3,12 @@ use Prim.Native.Nat.{_/_}
 use native.Mathlib.Omega.{arith}
 use mathlib.Core.Path.{_≡_, refl, sym, _∙_, ap}
 use lib.ListN.{length}
-use Rattle.format.specs.declared.Answer.the-variants.{Refused}
 use Rattle.format.specs.declared.Ruling.the-variants.{Fine}
 use Rattle.format.specs.Record.{recordsOf}
 use Rattle.format.proofs.Rows.{length-recordsOf}
-use Rattle.walk.specs.Walked.{refusalOf}
-use Rattle.walk.proofs.Telling.{stop-of-stopped}
+use Rattle.walk.proofs.Telling.{stop-of-refusal}
 use Rattle.admit.specs.Admit.{admitRuling}
-use Rattle.admit.proofs.Admitting.{admitted-of-through}
+use Rattle.admit.proofs.Admitting.{Admitted, admitted-of-through}
 use Rattle.writer.proofs.Deciding.{finishable}
 use Rattle.commit.specs.Commit.{choiceRuling}
 use Rattle.commit.proofs.Choosing.{length-of-fine}
@@ -34,14 +32,20 @@ refusal-of-requires c κs = search needs
 returns : tie.Need-returns
 returns c =
     let g = c .before .before .before .before .before .before .before .before .before .before .args in
-    let stop = stop-of-stopped (admitRuling (g .price) (g .list .now) (g .version .now) (g .store .now) (length (g .list .now) / 12) (length (g .list-area .now)) (length (g .block-area .now))) (recordsOf (g .list .now)) (c .before .enum-told .given .0 .0) (sym (c .before .before .before .admit .ensures) ∙ c .before .enum-told .given .1) in
-    stopped-by-admit (g .price) (g .list .now) (g .version .now) (g .store .now) (g .choice .now) (g .list-area .now) (g .block-area .now) stop (ap Refused (c .refusal-of .ensures ∙ ap refusalOf (c .before .enum-told .given .1)))
+    let ruling = admitRuling (g .price) (g .list .now) (g .version .now) (g .store .now) (length (g .list .now) / 12) (length (g .list-area .now)) (length (g .block-area .now)) in
+    let stop = stop-of-refusal ruling (recordsOf (g .list .now)) (c .before .before .before .admit .ensures) (c .before .enum-told .given .1) (c .refusal-of .ensures) in
+    stopped-by-admit (g .price) (g .list .now) (g .version .now) (g .store .now) (g .choice .now) (g .list-area .now) (g .block-area .now) stop refl
+
+-- partition's checks have passed; so has check 12
+passed : (c : tie.After-w) → let g = c .before .before .before .before .before .before .before .before .before .args in
+    Admitted (g .price) (g .list .now) (g .version .now) (g .store .now) (length (g .list .now) / 12) (length (g .list-area .now)) (length (g .block-area .now))
+passed c = admitted-of-through _ _ _ _ _ _ _ (c .w .given .0 .0) (sym (c .before .before .admit .ensures) ∙ c .w .given .1)
+
+allowed : (c : tie.After-enum-told2) → let g = c .before .before .before .before .before .before .before .before .before .before .before .before .before .args in choiceRuling (g .list .now) (g .choice .now) ≡ Fine
+allowed c = sym (c .before .before .check-choice .ensures) ∙ c .enum-told2 .given .1
 
 check-choice-requires : tie.Need-check-choice-requires
-check-choice-requires c κs =
-    let g = c .before .before .before .before .before .before .before .before .before .before .args in
-    let x = admitted-of-through (g .price) (g .list .now) (g .version .now) (g .store .now) (length (g .list .now) / 12) (length (g .list-area .now)) (length (g .block-area .now)) (c .before .w .given .0 .0) (sym (c .before .before .before .admit .ensures) ∙ c .before .w .given .1) in
-    x .sound .counted .list-most
+check-choice-requires c κs = passed (c .before) .sound .inputs .counted .list-most
 
 enum-known-refusal : tie.Need-enum-known-refusal
 enum-known-refusal c = search needs
@@ -49,8 +53,8 @@ enum-known-refusal c = search needs
 returns-2 : tie.Need-returns-2
 returns-2 c =
     let g = c .before .before .before .before .before .before .before .before .before .before .before .before .before .before .args in
-    let x = admitted-of-through (g .price) (g .list .now) (g .version .now) (g .store .now) (length (g .list .now) / 12) (length (g .list-area .now)) (length (g .block-area .now)) (c .before .before .before .before .before .w .given .0 .0) (sym (c .before .before .before .before .before .before .before .admit .ensures) ∙ c .before .before .before .before .before .w .given .1) in
-    stopped-by-choice (g .price) (g .list .now) (g .version .now) (g .store .now) (g .choice .now) (g .list-area .now) (g .block-area .now) (x .fine) (sym (c .before .before .before .check-choice .ensures) ∙ c .before .refusal .given .1) refl
+    let stop = sym (c .before .before .before .check-choice .ensures) ∙ c .before .refusal .given .1 in
+    stopped-by-choice (g .price) (g .list .now) (g .version .now) (g .store .now) (g .choice .now) (g .list-area .now) (g .block-area .now) (passed (c .before .before .before .before .before) .fine) stop refl
 
 enum-told-2 : tie.Need-enum-told-2
 enum-told-2 c = search needs
@@ -61,10 +65,8 @@ rates-of-requires c κs = search needs
 finish-requires : tie.Need-finish-requires
 finish-requires c κs =
     let g = c .before .before .before .before .before .before .before .before .before .before .before .before .before .before .before .before .args in
-    let x = admitted-of-through (g .price) (g .list .now) (g .version .now) (g .store .now) (length (g .list .now) / 12) (length (g .list-area .now)) (length (g .block-area .now)) (c .before .before .before .before .before .before .before .w .given .0 .0) (sym (c .before .before .before .before .before .before .before .before .before .admit .ensures) ∙ c .before .before .before .before .before .before .before .w .given .1) in
-    let s = x .sound in
-    let fine : choiceRuling (g .list .now) (g .choice .now) ≡ Fine = sym (c .before .before .before .before .before .check-choice .ensures) ∙ c .before .before .before .enum-told2 .given .1 in
-    finishable (g .choice .now) (g .choice .now) (rw (c .before .before .rates-of .ensures) (s .rates-fit)) (s .counted .list-most) (s .version-most) (s .whole-is) (omega (arith, length-of-fine (g .list .now) (g .choice .now) fine, length-recordsOf (g .list .now))) (s .in-area) (s .in-block) refl
+    let n = length-of-fine (g .list .now) (g .choice .now) (allowed (c .before .before .before)) in
+    finishable (passed (c .before .before .before .before .before .before .before) .sound) (c .before .before .rates-of .ensures) (omega (arith, n, length-recordsOf (g .list .now)))
 
 same-length : tie.Need-same-length
 same-length c = search needs
@@ -75,9 +77,8 @@ same-length-2 c = search needs
 returns-3 : tie.Need-returns-3
 returns-3 c =
     let g = c .before .before .before .before .before .before .before .before .before .before .before .before .before .before .before .before .before .before .before .before .before .args in
-    let x = admitted-of-through (g .price) (g .list .now) (g .version .now) (g .store .now) (length (g .list .now) / 12) (length (g .list-area .now)) (length (g .block-area .now)) (c .before .before .before .before .before .before .before .before .before .before .before .before .w .given .0 .0) (sym (c .before .before .before .before .before .before .before .before .before .before .before .before .before .before .admit .ensures) ∙ c .before .before .before .before .before .before .before .before .before .before .before .before .w .given .1) in
-    let fine : choiceRuling (g .list .now) (g .choice .now) ≡ Fine = sym (c .before .before .before .before .before .before .before .before .before .before .check-choice .ensures) ∙ c .before .before .before .before .before .before .before .before .enum-told2 .given .1 in
-    committed (g .price) (g .list .now) (g .version .now) (g .store .now) (g .choice .now) (g .list-area .now) (g .block-area .now) (x .fine) fine (rw (c .before .before .before .before .before .before .before .rates-of .ensures) at (c .before .before .before .before .finish .ensures))
+    let done = rw (c .before .before .before .before .before .before .before .rates-of .ensures) at (c .before .before .before .before .finish .ensures) in
+    committed (g .price) (g .list .now) (g .version .now) (g .store .now) (g .choice .now) (g .list-area .now) (g .block-area .now) (passed (c .before .before .before .before .before .before .before .before .before .before .before .before) .fine) (allowed (c .before .before .before .before .before .before .before .before)) done
 
 pub commit-spec : {M : Type 1} → statement M
 commit-spec =
