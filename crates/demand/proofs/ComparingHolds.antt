@@ -124,5 +124,5 @@ comparing-laws =
       of-pass = λ price handed other block st x y h made accepted.
           let s = sound price handed other block st x y h (passChoiceOf price handed) (passLooksOf price handed) (made .decided) accepted in
           same-as-written price handed other block st x y h (passChoiceOf price handed) (passLooksOf price handed) (made .decided) accepted
-          (pass-holds (ratesOf price) (recordsOf handed) (s .well-formed .sized) .choice);
+          (pass-holds (ratesOf price) (recordsOf handed) (s .covered .well-formed .sized) .choice);
     }

@@ -87,7 +87,7 @@ module _ (price : Price) (list v st : List ℕ) (x : Calls) (fine : findings pri
   pass-answer = decided-answer (made .passed .decided) pass-fine
 
   holds : PassHolds (ratesOf price) (recordsOf list)
-  holds = pass-holds (ratesOf price) (recordsOf list) (sound .well-formed .sized)
+  holds = pass-holds (ratesOf price) (recordsOf list) (sound .covered .well-formed .sized)
 
   demand-of-calls : Demand price list v x
   demand-of-calls =

@@ -19,6 +19,6 @@ lone-matches =
           record {
             choice = passChoiceOf p list;
             written = decided-areas (made .decided) fine;
-            none-alone = pass-none-alone (ratesOf p) (recordsOf list) (sound .well-formed .sized);
+            none-alone = pass-none-alone (ratesOf p) (recordsOf list) (sound .covered .well-formed .sized);
           };
     }

@@ -139,6 +139,6 @@ held-matches =
       in-pass = λ p list v st x made accepted.
           let fine = decided-fine (made .decided) accepted in
           let sound = sound-of-fine p list v st (length (x .before .choice)) (length (x .before .list)) (length (x .before .block)) fine in
-          held-stay (made .decided) fine (pass-holds (ratesOf p) (recordsOf list) (sound .well-formed .sized) .choice);
+          held-stay (made .decided) fine (pass-holds (ratesOf p) (recordsOf list) (sound .covered .well-formed .sized) .choice);
       in-look = λ r s a e. (rw e, untouched (testsOf r) s);
     }
