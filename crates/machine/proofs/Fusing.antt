@@ -9,7 +9,7 @@ use mathlib.Core.Bool.{Bool, true, false}
 use mathlib.Core.List.{List, [], _∷_}
 use lib.ListN.{length}
 use Rattle.rules.specs.Rules.{Item, new, match, neither, size, isNew}
-use Rattle.linear.specs.Pass.{bytes, first, joined}
+use Rattle.machine.specs.Looks.{bytes, first, joined}
 
 -- ---- what a list has to be
 

@@ -1,15 +1,15 @@
--- `linear::run` meets its contract. The invariant: `Round` says that the list is sound, that the looks left are enough, and that the pass comes to
+-- `machine::run` meets its contract. The invariant: `Round` says that the list is sound, that the looks left are enough, and that the pass comes to
 -- what they come to. The measure is the number of looks left. Assumes nothing.
 use Prim.Native.Nat.{_*_, _-_}
 use native.Mathlib.Omega.{arith}
 use mathlib.Core.Path.{refl, ap}
 use lib.ListN.{length}
-use Rattle.linear.specs.declared.Machine.{Machine}
-use Rattle.linear.specs.Machine.{rightOf}
-use Rattle.linear.proofs.Rounds.{Round, round-start, looks-left, ready-of-round, round-next, round-end}
+use Rattle.machine.specs.declared.Machine.{Machine}
+use Rattle.machine.specs.Machine.{rightOf}
+use Rattle.machine.proofs.Rounds.{Round, round-start, looks-left, ready-of-round, round-next, round-end}
 use borrow.Author.Needs.{needs}
-use Rattle.linear.proofs.run.Statement.{statement}
-use Rattle.linear.proofs.run.Tie as tie
+use Rattle.machine.proofs.run.Statement.{statement}
+use Rattle.machine.proofs.run.Tie as tie
 
 abbrev Inv-loop : tie.InvT-loop
 Inv-loop rates list₀ looks₀ list looks = Round rates (rightOf list₀) list looks

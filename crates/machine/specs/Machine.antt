@@ -1,29 +1,26 @@
--- How two arrays and a cursor hold the carried list of `Pass`: a gap buffer. Places 0 to left - 1 are what comes before p; p stands at `right`;
+-- How two arrays and a cursor hold the carried list of `Looks`: a gap buffer. Places 0 to left - 1 are what comes before p; p stands at `right`;
 -- place 4097 is the rear mark. What each function of the crate asks of a machine, and what it gives.
 -- Assumes nothing.
 use Prim.Native.Nat.{ℕ, zero, suc, _+_, _-_, _*_, _≤_, _<_}
 use mathlib.Core.Path.{_≡_}
-use mathlib.Core.Bool.{false, cond}
+use mathlib.Core.Bool.{false}
 use mathlib.Core.List.{List, [], _∷_}
 use lib.ListN.{length, getD, set}
-use Rattle.format.specs.declared.Record.{Record}
-use Rattle.format.specs.declared.Record.the-variants.{New, Match}
 use Rattle.format.specs.Limits.{versionMost}
-use Rattle.format.specs.Record.{from, recordsOf}
+use Rattle.format.specs.Record.{from}
 use Rattle.price.specs.declared.Rates.{Rates}
 use Rattle.price.specs.Price.{RatesFit}
-use Rattle.choice.specs.Choice.{IsChoice}
 use Rattle.rules.specs.declared.Cell.{Cell}
 use Rattle.rules.specs.declared.Merge.the-variants.{Both, Before, After, Pair}
 use Rattle.rules.specs.declared.Outcome.{Outcome}
 use Rattle.rules.specs.declared.Outcome.the-variants.{Advance, Merged}
 use Rattle.rules.specs.Rules.{Item, mark, isMatch, testsOf, cellItem}
-use Rattle.linear.specs.declared.Machine.{Machine}
-use Rattle.linear.specs.declared.Sight.{Sight}
-use Rattle.linear.specs.declared.Move.{Move}
-use Rattle.linear.specs.declared.Step.{Step}
-use Rattle.linear.specs.declared.Passed.{Passed}
-use Rattle.linear.specs.Pass.{bytes, State, first, rest, mergeIn, Look, lookAt, pass, joined, choiceOf}
+use Rattle.machine.specs.declared.Machine.{Machine}
+use Rattle.machine.specs.declared.Sight.{Sight}
+use Rattle.machine.specs.declared.Move.{Move}
+use Rattle.machine.specs.declared.Step.{Step}
+use Rattle.machine.specs.declared.Passed.{Passed}
+use Rattle.machine.specs.Looks.{bytes, State, first, rest, mergeIn, Look, lookAt, pass}
 
 -- the cell and the item at a place of two arrays
 abbrev pub cellAt : List ℕ → List ℕ → ℕ → Cell
@@ -138,11 +135,6 @@ pub record Looked (rates : Rates) (m : Machine) (s : Step) : Type 0 where
   pub within : s .next .right ≤ 4097
   pub rear : itemIn (leftBy s) 4097 ≡ mark
 
--- the kind of a record in a cell: 0 new, 1 match, 2 a held match
-abbrev pub kindOf : Record → ℕ
-kindOf (New s) = 0
-kindOf (Match s a) = cond (a .held) 2 1
-
 -- a machine at the start of a pass: only the front mark comes before p
 pub record Loaded (m : Machine) (xs : List Item) : Type 0 where
   pub gap : m .left ≤ m .right
@@ -163,14 +155,3 @@ pub record Ran (rates : Rates) (xs : List Item) (r : Passed) : Type 0 where
   pub few-looks : r .looks ≤ 2 * length xs - 1
   pub list-is : leftOf (r .list) ≡ pass (testsOf rates) xs .end .left
   pub within : r .list .left ≤ 4097
-
--- the end list of a machine, without its front mark
-abbrev pub endOf : Machine → List Item
-endOf m = rest (joined (leftOf m) [])
-
--- what reading off a choice asks for: a byte for each record, and items that cover the records
-pub record Covering (m : Machine) (list choice : List ℕ) : Type 0 where
-  pub within : m .left ≤ 4097
-  pub list-most : length list ≤ 49152
-  pub room : length (recordsOf list) ≤ length choice
-  pub covered : IsChoice (recordsOf list) (choiceOf (recordsOf list) (endOf m))

@@ -7,9 +7,9 @@ use mathlib.Core.Path.{_≡_, refl}
 use mathlib.Core.List.{List, [], _∷_}
 use lib.ListN.{length}
 use Rattle.rules.specs.Rules.{Item, mark, Tests}
-use Rattle.linear.specs.Pass.{bytes, rest, Look, lookAt, mergeIn, mergesIn, Run, stopped, preceded, run, pass, joined, endItems}
-use Rattle.linear.proofs.Fusing.{Starts, Tidy, Fuses, none, keepNeither, fuses-refl, weigh, length-joined, two-of-starts, Turns, turns-refl, turns-trans}
-use Rattle.linear.proofs.Looks.{Pays, Seen, seen, look-turns, look-nearer}
+use Rattle.machine.specs.Looks.{bytes, rest, Look, lookAt, mergeIn, mergesIn, Run, stopped, preceded, run, pass, joined, endItems}
+use Rattle.machine.proofs.Fusing.{Starts, Tidy, Fuses, none, keepNeither, fuses-refl, weigh, length-joined, two-of-starts, Turns, turns-refl, turns-trans}
+use Rattle.machine.proofs.Looks.{Pays, Seen, seen, look-turns, look-nearer}
 
 module _ (t : Tests) (w : Item → ℕ) (pays : Pays t w) where
   -- what a run from l and r comes to

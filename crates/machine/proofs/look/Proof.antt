@@ -1,11 +1,11 @@
--- `linear::look` meets its contract: the outcome is that of the items around p, and the list is what its move makes of it. Assumes nothing.
+-- `machine::look` meets its contract: the outcome is that of the items around p, and the list is what its move makes of it. Assumes nothing.
 use Prim.Native.Nat.{ℕ}
 use mathlib.Core.Path.{_≡_}
 use lib.ListN.{length}
-use Rattle.linear.proofs.Carrying.{sizes-fit, outcome-reaches, looked}
+use Rattle.machine.proofs.Carrying.{sizes-fit, outcome-reaches, looked}
 use borrow.Author.Needs.{needs, length-unmapped}
-use Rattle.linear.proofs.look.Statement.{statement}
-use Rattle.linear.proofs.look.Tie as tie
+use Rattle.machine.proofs.look.Statement.{statement}
+use Rattle.machine.proofs.look.Tie as tie
 
 sight-of-requires : tie.Need-sight-of-requires
 sight-of-requires c κs = search needs

@@ -1,12 +1,12 @@
--- `linear::sight_of` meets its contract: the items around the cursor, and a mark where there is none. Assumes nothing.
+-- `machine::sight_of` meets its contract: the items around the cursor, and a mark where there is none. Assumes nothing.
 use mathlib.Core.Path.{ap, _∙_}
 use mathlib.Core.Logic.{⊎-elim}
 use native.Mathlib.Omega.{arith}
 use Rattle.rules.specs.Rules.{cellItem}
-use Rattle.linear.proofs.Carrying.{first-below, none-below, first-from, second-near, second-none}
+use Rattle.machine.proofs.Carrying.{first-below, none-below, first-from, second-near, second-none}
 use borrow.Author.Needs.{needs}
-use Rattle.linear.proofs.sight_of.Statement.{statement}
-use Rattle.linear.proofs.sight_of.Tie as tie
+use Rattle.machine.proofs.sight_of.Statement.{statement}
+use Rattle.machine.proofs.sight_of.Tie as tie
 
 sub-cell-at : tie.Need-sub-cell-at
 sub-cell-at c = search needs

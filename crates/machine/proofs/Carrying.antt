@@ -16,12 +16,12 @@ use Rattle.rules.specs.declared.Outcome.{Outcome}
 use Rattle.rules.specs.declared.Outcome.the-variants.{Advance, Merged}
 use Rattle.rules.specs.Rules.{Item, new, match, neither, mark, size, isMatch, Tests, testsOf, outcomeAt, cellItem}
 use Rattle.rules.proofs.ByKind.{size-item, outcome-no-match}
-use Rattle.linear.specs.declared.Machine.{Machine}
-use Rattle.linear.specs.declared.Sight.{Sight}
-use Rattle.linear.specs.declared.Move.{Move}
-use Rattle.linear.specs.Pass.{bytes, first, rest, after, stepBack, mergeIn, ended}
-use Rattle.linear.specs.Machine.{itemAt, itemIn, below, fromPlace, leftOf, afterOf, stateOf, Sighted, newCell, goneOn, fusedBack, fusedAhead, moveOf, moved, reach, Reaches, Ready, Looked}
-use Rattle.linear.proofs.Gap.{state-of, cons-of, ne-of-lt, at-other, at-same, below-next, below-set, below-put, fromPlace-next, fromPlace-none, fromPlace-set, fromPlace-put, rear-set}
+use Rattle.machine.specs.declared.Machine.{Machine}
+use Rattle.machine.specs.declared.Sight.{Sight}
+use Rattle.machine.specs.declared.Move.{Move}
+use Rattle.machine.specs.Looks.{bytes, first, rest, after, stepBack, mergeIn, ended}
+use Rattle.machine.specs.Machine.{itemAt, itemIn, below, fromPlace, leftOf, afterOf, stateOf, Sighted, newCell, goneOn, fusedBack, fusedAhead, moveOf, moved, reach, Reaches, Ready, Looked}
+use Rattle.machine.proofs.Gap.{state-of, cons-of, ne-of-lt, at-other, at-same, below-next, below-set, below-put, fromPlace-next, fromPlace-none, fromPlace-set, fromPlace-put, rear-set}
 
 -- ---- the first items around a place
 

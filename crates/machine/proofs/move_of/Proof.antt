@@ -1,8 +1,8 @@
--- `linear::move_of` meets its contract: each outcome has its move. Assumes nothing.
+-- `machine::move_of` meets its contract: each outcome has its move. Assumes nothing.
 use native.Mathlib.Omega.{arith}
 use borrow.Author.Needs.{needs}
-use Rattle.linear.proofs.move_of.Statement.{statement}
-use Rattle.linear.proofs.move_of.Tie as tie
+use Rattle.machine.proofs.move_of.Statement.{statement}
+use Rattle.machine.proofs.move_of.Tie as tie
 
 enum-told : tie.Need-enum-told
 enum-told c = search needs

@@ -9,8 +9,8 @@ use lib.ListN.{length}
 use Rattle.rules.specs.declared.Merge.the-variants.{Both, Before, After, Pair}
 use Rattle.rules.specs.declared.Outcome.the-variants.{Advance, Merged}
 use Rattle.rules.specs.Rules.{Item, new, match, neither, isNew, Tests}
-use Rattle.linear.specs.Pass.{first, Look, ended, lookAt, mergeIn, joined}
-use Rattle.linear.proofs.Fusing.{Starts, Tidy, starts-cons, Turns, turns-refl, turns-joined, fuses-cons, fuse-both, fuse-before, fuse-after, fuse-pair}
+use Rattle.machine.specs.Looks.{first, Look, ended, lookAt, mergeIn, joined}
+use Rattle.machine.proofs.Fusing.{Starts, Tidy, starts-cons, Turns, turns-refl, turns-joined, fuses-cons, fuse-both, fuse-before, fuse-after, fuse-pair}
 
 -- the tests are such that a merge lowers the weight, and merge 1 takes what merge 2 takes
 pub record Pays (t : Tests) (w : Item → ℕ) : Type 0 where

@@ -12,8 +12,8 @@ use lib.Seq.{getD-set-same, getD-set-other}
 use Rattle.format.specs.Record.{from}
 use Rattle.format.proofs.Rows.{from-next, from-none}
 use Rattle.rules.specs.Rules.{Item, itemOf}
-use Rattle.linear.specs.Pass.{State, rest, joined}
-use Rattle.linear.specs.Machine.{itemAt, below, fromPlace}
+use Rattle.machine.specs.Looks.{State, rest, joined}
+use Rattle.machine.specs.Machine.{itemAt, below, fromPlace}
 
 pub state-of : {l l′ r r′ : List Item} → l ≡ l′ → r ≡ r′ → _≡_ {A = State} (record { left = l; right = r }) (record { left = l′; right = r′ })
 state-of p q = λ i. record { left = p i; right = q i }

@@ -11,16 +11,16 @@ use Rattle.format.proofs.Rows.{length-from}
 use Rattle.price.specs.declared.Rates.{Rates}
 use Rattle.price.specs.Price.{RatesFit}
 use Rattle.rules.specs.Rules.{Item, new, match, neither, mark, isMatch, testsOf}
-use Rattle.linear.specs.declared.Machine.{Machine}
-use Rattle.linear.specs.declared.Step.{Step}
-use Rattle.linear.specs.declared.Passed.{Passed}
-use Rattle.linear.specs.Pass.{bytes, State, Look, lookAt, Run, stopped, preceded, run, pass}
-use Rattle.linear.specs.Machine.{itemAt, itemIn, leftOf, rightOf, afterOf, Ready, leftBy, Looked, Runnable, Ran}
-use Rattle.linear.proofs.Fusing.{Some, Starts, bytes-joined}
-use Rattle.linear.proofs.Looks.{seen, look-turns}
-use Rattle.linear.proofs.Running.{few-of-pass, Onward, onward, run-look, run-rear}
-use Rattle.linear.proofs.Theorems.{priceOf, merges-pay}
-use Rattle.linear.proofs.Gap.{fromPlace-next, fromPlace-none}
+use Rattle.machine.specs.declared.Machine.{Machine}
+use Rattle.machine.specs.declared.Step.{Step}
+use Rattle.machine.specs.declared.Passed.{Passed}
+use Rattle.machine.specs.Looks.{bytes, State, Look, lookAt, Run, stopped, preceded, run, pass}
+use Rattle.machine.specs.Machine.{itemAt, itemIn, leftOf, rightOf, afterOf, Ready, leftBy, Looked, Runnable, Ran}
+use Rattle.machine.proofs.Fusing.{Some, Starts, bytes-joined}
+use Rattle.machine.proofs.Looks.{seen, look-turns}
+use Rattle.machine.proofs.Running.{few-of-pass, Onward, onward, run-look, run-rear}
+use Rattle.machine.proofs.Paying.{priceOf, merges-pay}
+use Rattle.machine.proofs.Gap.{fromPlace-next, fromPlace-none}
 
 -- before a look, with so many made: the list is sound, the looks that are left are enough, and the pass comes to what they come to
 pub record Round (rates : Rates) (xs : List Item) (m : Machine) (looks : ℕ) : Type 0 where
