@@ -49,7 +49,7 @@ pub fn admit(
     if !lengths_fit(version, store) {
         return walk::stopped(Fault::TooLong, 0);
     }
-    if !format::list_fits(list) {
+    if !checks::list_fits(list) {
         return walk::stopped(Fault::ListLength, 0);
     }
     if !areas_fit(list, version, c, a, b) {

@@ -1,7 +1,7 @@
--- `format::list_fits` meets its contract: each way out rewrites `listFits` by the test on the way. Assumes nothing.
+-- `checks::list_fits` meets its contract: each way out rewrites `listFits` by the test on the way. Assumes nothing.
 use borrow.Author.Tests.{le-leb, lt-leb}
-use Rattle.format.proofs.list_fits.Statement.{statement}
-use Rattle.format.proofs.list_fits.Tie as tie
+use Rattle.checks.proofs.list_fits.Statement.{statement}
+use Rattle.checks.proofs.list_fits.Tie as tie
 
 returns : tie.Need-returns
 returns c = simp (lt-leb _ _ (c .if1 .taken))
