@@ -50,7 +50,7 @@ pub fn inputs(price: Price, list: &[u8], version: &[u8], store: &[u8]) -> Ruling
     if !lengths_fit(version, store) {
         return walk::stop(Fault::TooLong, 0);
     }
-    if !format::list_fits(list) {
+    if !checks::list_fits(list) {
         return walk::stop(Fault::ListLength, 0);
     }
     Ruling::Fine

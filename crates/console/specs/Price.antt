@@ -1,4 +1,4 @@
--- The file price, document 02, S-2: "the price file holds EN, EM, F, 2 bytes each, and one of any length but 6 is bad"; lowest byte first (document
+-- The file price: "the price file holds EN, EM, F, 2 bytes each, and one of any length but 6 is bad"; lowest byte first (document
 -- 01, "Sheets").
 -- Assumes nothing.
 use Prim.Native.Nat.{ℕ, _+_, _*_}

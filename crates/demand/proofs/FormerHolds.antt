@@ -17,7 +17,8 @@ use Rattle.join.specs.Join.{tidy}
 use Rattle.choice.specs.Choice.{listOf, costOf, least}
 use Rattle.choice.proofs.Path.{choices-cong}
 use Rattle.rules.specs.Rules.{Tests, testsOf}
-use Rattle.linear.specs.Pass.{items, pass, endItems, passOutcomes, choiceOf, passChoice}
+use Rattle.machine.specs.Looks.{pass, endItems}
+use Rattle.linear.specs.Pass.{items, passOutcomes, choiceOf, passChoice}
 use Rattle.demand.specs.Former.{formerCost, formerLeast, formerTests, formerOutcomes, formerPass, samePrice, FormerAnswers}
 use Rattle.demand.proofs.Giving.{measures-given, gives-of-decided}
 

@@ -19,7 +19,8 @@ use Rattle.choice.proofs.Path.{choices-cong}
 use Rattle.choice.proofs.Lists.{kept-apart}
 use Rattle.writer.specs.Decide.{Decided}
 use Rattle.rules.specs.Rules.{testsOf}
-use Rattle.linear.specs.Pass.{items, pass, endItems, passOutcomes, passChoice, choiceOf}
+use Rattle.machine.specs.Looks.{pass, endItems}
+use Rattle.linear.specs.Pass.{items, passOutcomes, passChoice, choiceOf}
 use Rattle.demand.specs.Demand.{Call}
 use Rattle.demand.specs.NoRuns.{plainJoin, plainList, plainLeast, plainOutcomes, plainPass, GivesList, NoRuns}
 

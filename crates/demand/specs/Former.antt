@@ -22,7 +22,8 @@ use Rattle.admit.specs.Admit.{partitionRuling}
 use Rattle.call_partition.specs.Partition.{Partitioned}
 use Rattle.rules.specs.Rules.{Tests}
 use Rattle.rules.specs.declared.Outcome.{Outcome}
-use Rattle.linear.specs.Pass.{items, pass, endItems, passOutcomes, choiceOf}
+use Rattle.machine.specs.Looks.{pass, endItems}
+use Rattle.linear.specs.Pass.{items, passOutcomes, choiceOf}
 use Rattle.call_pass.specs.Pass.{PassMade}
 use Rattle.demand.specs.Demand.{Call}
 use Rattle.demand.specs.Gives.{measuresAt, Gives}

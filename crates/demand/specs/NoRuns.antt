@@ -24,7 +24,8 @@ use Rattle.writer.specs.Decide.{figures, laid}
 use Rattle.call_partition.specs.Partition.{Partitioned}
 use Rattle.rules.specs.Rules.{testsOf}
 use Rattle.rules.specs.declared.Outcome.{Outcome}
-use Rattle.linear.specs.Pass.{items, pass, endItems, choiceOf}
+use Rattle.machine.specs.Looks.{pass, endItems}
+use Rattle.linear.specs.Pass.{items, choiceOf}
 use Rattle.call_pass.specs.Pass.{PassMade}
 use Rattle.demand.specs.Demand.{Call}
 

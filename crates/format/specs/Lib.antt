@@ -3,4 +3,5 @@ pub mod Refusal
 pub mod Record
 pub mod Meaning
 pub mod WellFormed
+pub mod Origins
 pub mod Marks

@@ -1,13 +1,14 @@
--- The marks of a list, document 02, S-6: the list without them, and what they bind.
+-- The marks of a list: the list without them, and what they bind.
 -- Assumes nothing.
 use Prim.Native.Nat.{ℕ, _-_, _%_}
 use mathlib.Core.Bool.{_&&_, cond}
-use mathlib.Core.List.{List, [], _∷_, _++_}
+use mathlib.Core.List.{List, [], _∷_, map}
 use lib.Dec.{eqb}
-use lib.ListN.{length, getD, replicate}
+use lib.ListN.{length, getD}
 use Rattle.format.specs.declared.Record.{Record}
 use Rattle.format.specs.declared.Record.the-variants.{New, Match}
 use Rattle.format.specs.Record.{freeAt, from}
+use Rattle.format.specs.Origins.{Origin, fresh, drawn, origins}
 
 -- a record without its mark, and the records of a list
 abbrev pub bare : Record → Record
@@ -31,12 +32,11 @@ pub data Bond : Type 0 where
   free : Bond
   boundTo : ℕ → Bond
 
--- what a record says of each byte that it covers
-abbrev pub bondsOf : Record → List Bond
-bondsOf (New s) = replicate s free
-bondsOf (Match s a) = cond (a .held) (from boundTo (a .address) s) (replicate s free)
+-- what the origin of a byte binds: only one drawn by a held match does
+abbrev pub bondOf : Origin → Bond
+bondOf fresh = free
+bondOf (drawn a) = cond (a .held) (boundTo (a .address)) free
 
 -- what a list says of each byte of the version
 abbrev pub bonds : List Record → List Bond
-bonds [] = []
-bonds (r ∷ l) = bondsOf r ++ bonds l
+bonds l = map bondOf (origins l)

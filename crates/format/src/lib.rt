@@ -1,12 +1,13 @@
 // The list of a version: 12-byte records, read from bytes; the faults a call can find, and the answer it gives.
 //
-// In order: faults and answers; the record's bytes; what is well formed by itself.
-// Not here: what a record must be beside its neighbours, the version and the store (crate `walk`).
+// In order: faults and answers; the record's bytes.
+// Not here: what a list's length and a row must be by themselves (crate `checks`), and a record beside its neighbours, the version and the store (crate
+// `walk`).
 ghost use mathlib.Core.Path.{_≡_};
 ghost use Prim.Native.Nat.{_+_, _*_, _≤_, _<_};
 ghost use lib.ListN.{length};
 ghost use Rattle.format.specs.Refusal.{number, refuse, lengthOnly, entriesOnly, figuresIn};
-ghost use Rattle.format.specs.Record.{wordAt, rowAt, recordOf, wellFormed, listFits};
+ghost use Rattle.format.specs.Record.{wordAt, rowAt, recordOf};
 ghost use Rattle.format.specs.Meaning.{sizeOf};
 
 // What is at fault, in the order of the numbers 1 to 12 (`number`).
@@ -46,6 +47,7 @@ pub struct Figures {
     pub whole: u32,
 }
 
+// What a call answers: its figures, or why it is refused.
 pub enum Answer {
     Accepted(Figures),
     Refused(Refusal),
@@ -207,44 +209,6 @@ pub fn size_of(record: Record) -> u32
         Record::New(size) => size,
         Record::Match(size, _) => size,
     }
-}
-
-// Whether a row is a record: check 4.
-pub fn well_formed(row: Row) -> bool
-    ensures { λ r. ⌜ r ≡ wellFormed row ⌝ }
-{
-    if 1 < row.kind {
-        return false;
-    }
-    if 1 < row.byte1 {
-        return false;
-    }
-    if row.byte2 != 0 {
-        return false;
-    }
-    if row.byte3 != 0 {
-        return false;
-    }
-    if row.size < 1 {
-        return false;
-    }
-    if row.kind == 0 {
-        if row.byte1 != 0 {
-            return false;
-        }
-        return row.address == 0;
-    }
-    true
-}
-
-// Whether so many bytes can be a list: check 3.
-pub fn list_fits(list: &[u8]) -> bool
-    ensures { λ r. ⌜ r ≡ listFits (now (list .entry)) ⌝ }
-{
-    if 49152 < list.len() {
-        return false;
-    }
-    list.len() % 12 == 0
 }
 
 // A 32-bit number as an index.

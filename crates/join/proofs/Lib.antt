@@ -1,2 +1,3 @@
 pub mod Joining
 pub mod Opening
+pub mod Tracing

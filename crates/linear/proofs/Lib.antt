@@ -1,12 +1,6 @@
 pub mod Items
-pub mod Fusing
-pub mod Looks
-pub mod Running
 pub mod Recovering
 pub mod Theorems
-pub mod Gap
-pub mod Carrying
-pub mod Rounds
 pub mod Loading
 pub mod Reading
 pub mod Passing

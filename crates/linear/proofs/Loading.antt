@@ -20,11 +20,12 @@ use Rattle.join.specs.Join.{grown, joinsFirst, join, tidy}
 use Rattle.join.proofs.Joining.{join-true, join-settled, first-tidy, whole-tidy}
 use Rattle.rules.specs.Rules.{Item, mark, size, itemOf}
 use Rattle.rules.proofs.ByKind.{size-item}
-use Rattle.linear.specs.declared.Machine.{Machine}
+use Rattle.machine.specs.declared.Machine.{Machine}
 use Rattle.linear.specs.Pass.{drawn, items, itemFor}
-use Rattle.linear.specs.Machine.{itemAt, fromPlace, kindOf, Loaded}
+use Rattle.machine.specs.Machine.{itemAt, fromPlace, Loaded}
+use Rattle.linear.specs.Carried.{kindOf}
 use Rattle.linear.proofs.Items.{size-for}
-use Rattle.linear.proofs.Gap.{at-other, rear-set, fromPlace-next, fromPlace-none, fromPlace-put}
+use Rattle.machine.proofs.Gap.{at-other, rear-set, fromPlace-next, fromPlace-none, fromPlace-put}
 
 -- the tidy form of the records from i on stands from `right` on, and the marks stand where they stay
 pub record Laid (list : List ℕ) (kinds sizes : List ℕ) (i right : ℕ) : Type 0 where

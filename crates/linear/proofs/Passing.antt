@@ -13,10 +13,12 @@ use Rattle.price.specs.Price.{RatesFit}
 use Rattle.join.specs.Join.{tidy}
 use Rattle.join.proofs.Joining.{whole-tidy}
 use Rattle.rules.specs.Rules.{Item, testsOf}
-use Rattle.linear.specs.declared.Machine.{Machine}
-use Rattle.linear.specs.declared.Passed.{Passed}
-use Rattle.linear.specs.Pass.{items, bytes, rest, joined, pass, endItems, passOutcomes, passLooks, passItems}
-use Rattle.linear.specs.Machine.{rightOf, endOf, Loaded, Runnable, Ran}
+use Rattle.machine.specs.declared.Machine.{Machine}
+use Rattle.machine.specs.declared.Passed.{Passed}
+use Rattle.machine.specs.Looks.{bytes, rest, joined, pass, endItems}
+use Rattle.linear.specs.Pass.{items, passOutcomes, passLooks, passItems}
+use Rattle.machine.specs.Machine.{rightOf, Loaded, Runnable, Ran}
+use Rattle.linear.specs.Carried.{endOf}
 use Rattle.linear.proofs.Theorems.{length-items, bytes-items}
 
 module _ (rates : Rates) (rs : List Record) (m : Machine) where

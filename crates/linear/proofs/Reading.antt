@@ -19,10 +19,11 @@ use Rattle.area.specs.Area.{pasted, over}
 use Rattle.area.proofs.Filling.{Filling, filling-start, filling-put, filling-end}
 use Rattle.rules.specs.Rules.{Item, new, match, neither, size, itemOf}
 use Rattle.rules.proofs.ByKind.{size-item, new-item}
-use Rattle.linear.specs.declared.Machine.{Machine}
+use Rattle.machine.specs.declared.Machine.{Machine}
 use Rattle.linear.specs.Pass.{shrunk, cut, bitFor, choiceOf}
-use Rattle.linear.specs.Machine.{itemIn, endOf, Covering}
-use Rattle.linear.proofs.Gap.{rest-below}
+use Rattle.machine.specs.Machine.{itemIn}
+use Rattle.linear.specs.Carried.{endOf, Covering}
+use Rattle.machine.proofs.Gap.{rest-below}
 
 -- ---- lengths, and one byte stored
 

@@ -22,9 +22,10 @@ use Rattle.choice.proofs.Lists.{kept-apart, size-chosen, sized-list}
 use Rattle.choice.proofs.Unjoining.{keep-store, unjoined, carried, spared}
 use Rattle.rules.specs.Rules.{Item, new, size, isNew}
 use Rattle.rules.proofs.ByKind.{and-false}
-use Rattle.linear.specs.Pass.{drawn, first, itemFor, items, cut, bitFor, choiceOf}
+use Rattle.machine.specs.Looks.{first}
+use Rattle.linear.specs.Pass.{drawn, itemFor, items, cut, bitFor, choiceOf}
 use Rattle.linear.proofs.Items.{new-drawn, size-for, shrunk-grown}
-use Rattle.linear.proofs.Fusing.{Tidy, Fused, Fuses, none, keepNeither, keepMatch, takeNew, takeMatch, moreNew, moreMatch}
+use Rattle.machine.proofs.Fusing.{Tidy, Fused, Fuses, none, keepNeither, keepMatch, takeNew, takeMatch, moreNew, moreMatch}
 
 -- ---- a choice is read off its own list
 

@@ -9,7 +9,8 @@ use Rattle.price.specs.Price.{scaled}
 use Rattle.join.specs.Join.{tidy}
 use Rattle.rules.specs.Rules.{Tests}
 use Rattle.rules.proofs.AtPrice.{tests-scaled}
-use Rattle.linear.specs.Pass.{items, pass, endItems, passOutcomes, choiceOf, passChoice}
+use Rattle.machine.specs.Looks.{pass, endItems}
+use Rattle.linear.specs.Pass.{items, passOutcomes, choiceOf, passChoice}
 
 module _ (k : ℕ) (above : 0 < k) (r : Rates) (rs : List Record) where
   pub outcomes-scaled : passOutcomes (scaled k r) rs ≡ passOutcomes r rs

@@ -7,7 +7,6 @@ use mathlib.Core.Path.{_≡_, refl, _∙_, ap, ap₂}
 use mathlib.Core.Bool.{Bool, true, false}
 use mathlib.Core.List.{List, [], _∷_}
 use lib.ListN.{length}
-use borrow.Author.Tests.{ltb-true, lt-ltb}
 use Rattle.format.specs.declared.Record.{Record}
 use Rattle.format.specs.declared.Record.the-variants.{New, Match}
 use Rattle.format.specs.Meaning.{whole}
@@ -19,19 +18,14 @@ use Rattle.join.proofs.Joining.{whole-tidy, apart-tidy}
 use Rattle.choice.specs.Choice.{IsChoice, listOf}
 use Rattle.choice.specs.Alone.{storesAlone}
 use Rattle.choice.proofs.Least.{cost-tidy}
-use Rattle.rules.specs.Rules.{Item, new, match, neither, isNew, testsOf}
-use Rattle.linear.specs.Pass.{drawn, first, items, bytes, Look, lookAt, mergeIn, mergesIn, joined, pass, passOutcomes, passLooks, passItems, passChoice}
+use Rattle.rules.specs.Rules.{isNew, testsOf}
+use Rattle.machine.specs.Looks.{first, bytes, mergesIn, pass}
+use Rattle.machine.proofs.Fusing.{Tidy, weigh}
+use Rattle.machine.proofs.Paying.{priceOf, merges-pay}
+use Rattle.machine.proofs.Running.{Passes, passes}
+use Rattle.linear.specs.Pass.{drawn, items, passOutcomes, passLooks, passItems, passChoice}
 use Rattle.linear.proofs.Items.{new-drawn, size-for}
-use Rattle.linear.proofs.Fusing.{Starts, Tidy, weigh}
-use Rattle.linear.proofs.Looks.{Pays, seen, look-turns}
-use Rattle.linear.proofs.Running.{Passes, passes}
 use Rattle.linear.proofs.Recovering.{Recovered, recovered}
-
--- what an item adds to the cost; one of neither kind is a held match, or a mark, which weighs as much
-abbrev pub priceOf : Rates → Item → ℕ
-priceOf r (new s) = r .fresh .0 + r .byte .0 * s
-priceOf r (match s) = r .kept .0
-priceOf r (neither s) = r .kept .0
 
 price-drawn : (r : Rates) (h : Bool) (s : ℕ) → priceOf r (drawn h s) ≡ r .kept .0
 price-drawn r true s = refl
@@ -41,16 +35,6 @@ pub cost-weigh : (r : Rates) (rs : List Record) → cost r rs ≡ weigh (priceOf
 cost-weigh r [] = omega arith
 cost-weigh r (New s ∷ rs) = omega (arith, cost-weigh r rs)
 cost-weigh r (Match s a ∷ rs) = omega (arith, cost-weigh r rs, price-drawn r (a .held) s)
-
-pub merges-pay : (r : Rates) → Pays (testsOf r) (priceOf r)
-merges-pay r =
-    record {
-      wider = λ s e. lt-ltb (r .byte .0 * s) (r .kept .0 + r .fresh .0) (omega (arith, ltb-true (r .byte .0 * s) (r .kept .0) e));
-      both-pays = λ a b c e. omega (arith, ltb-true (r .byte .0 * b) (r .kept .0 + r .fresh .0) e);
-      before-pays = λ a b e. omega (arith, ltb-true (r .byte .0 * b) (r .kept .0) e);
-      after-pays = λ b c e. omega (arith, ltb-true (r .byte .0 * b) (r .kept .0) e);
-      pair-pays = λ b c e. omega (arith, ltb-true (r .byte .0 * (b + c) + r .fresh .0) (2 * r .kept .0) e);
-    }
 
 pub length-items : (rs : List Record) → length (items rs) ≡ length rs
 length-items [] = refl
@@ -73,12 +57,6 @@ tidy-of-apart (Match s a ∷ rs) h = go (a .held) (tidy-of-apart rs h)
     go : (x : Bool) → Tidy (items rs) → Tidy (drawn x s ∷ items rs)
     go true k = k
     go false k = k
-
--- each merge lowers the cost of the carried list, marks priced like records, and an advance does not raise it
-pub merge-lowers : (rates : Rates) (l : List Item) (x : Item) (r : List Item) → Starts (joined l (x ∷ r))
-    → let s : Look = lookAt (testsOf rates) l x r in
-    weigh (priceOf rates) (joined (s .next .left) (s .next .right)) + mergeIn (s .outcome) ≤ weigh (priceOf rates) (joined l (x ∷ r))
-merge-lowers rates l x r h = look-turns (testsOf rates) (priceOf rates) (merges-pay rates) (seen (testsOf rates) (priceOf rates) (merges-pay rates) l x r h) .lower
 
 module _ (r : Rates) (rs : List Record) where
   pass-of : Passes (testsOf r) (priceOf r) (items (tidy rs))

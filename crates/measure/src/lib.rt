@@ -15,7 +15,7 @@ pub fn measure(price: Price, list: &[u8]) -> Answer
     if !price::in_range(price) {
         return format::refused(Fault::Price);
     }
-    if !format::list_fits(list) {
+    if !checks::list_fits(list) {
         return format::refused(Fault::ListLength);
     }
     let none = &list[0..0];

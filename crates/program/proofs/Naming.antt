@@ -16,23 +16,26 @@ use Rattle.program.specs.Run.{fileIn, priceOfFile, textOfFiles, runText,
 abbrev textRead : (price items version store : List ℕ) (p l v s : Read) → List ℕ
 textRead price items version store p l v s = runText (fileIn p price) (fileIn l items) (fileIn v version) (fileIn s store)
 
-module _ (price items version store : List ℕ) (p l v s : Read) (r : PriceFile) (read : r ≡ priceOfFile (fileIn p price)) where
+-- the text where the price is k: the first bad file of the other three is named, or all are read
+pub record Priced (price items version store : List ℕ) (p l v s : Read) (k : Price) : Type 0 where
+  pub items-named : l .bad ≡ true → textRead price items version store p l v s ≡ badFileText itemsName
+  pub version-named : l .bad ≡ false → v .bad ≡ true → textRead price items version store p l v s ≡ badFileText versionName
+  pub store-named : l .bad ≡ false → v .bad ≡ false → s .bad ≡ true → textRead price items version store p l v s ≡ badFileText storeName
+  pub none-named : l .bad ≡ false → v .bad ≡ false → s .bad ≡ false
+      → textRead price items version store p l v s ≡ programText k (take (l .bytes) items) (take (v .bytes) version) (take (s .bytes) store)
+
+module _ (price items version store : List ℕ) (p l v s : Read) {r : PriceFile} (read : r ≡ priceOfFile (fileIn p price)) where
   at-price : (q : PriceFile) → r ≡ q → textRead price items version store p l v s ≡ textOfFiles q (fileIn l items) (fileIn v version) (fileIn s store)
   at-price q h = ap (λ (x : PriceFile). textOfFiles x (fileIn l items) (fileIn v version) (fileIn s store)) (sym read ∙ h)
 
   pub price-named : r ≡ Bad → textRead price items version store p l v s ≡ badFileText priceName
   price-named h = at-price Bad h
 
-  module _ (k : Price) (h : r ≡ Holds k) where
-    pub items-named : l .bad ≡ true → textRead price items version store p l v s ≡ badFileText itemsName
-    items-named i = at-price (Holds k) h ∙ rw i
-
-    pub version-named : l .bad ≡ false → v .bad ≡ true → textRead price items version store p l v s ≡ badFileText versionName
-    version-named i j = at-price (Holds k) h ∙ rw (i, j)
-
-    pub store-named : l .bad ≡ false → v .bad ≡ false → s .bad ≡ true → textRead price items version store p l v s ≡ badFileText storeName
-    store-named i j m = at-price (Holds k) h ∙ rw (i, j, m)
-
-    pub none-named : l .bad ≡ false → v .bad ≡ false → s .bad ≡ false
-        → textRead price items version store p l v s ≡ programText k (take (l .bytes) items) (take (v .bytes) version) (take (s .bytes) store)
-    none-named i j m = at-price (Holds k) h ∙ rw (i, j, m)
+  pub priced : (k : Price) → r ≡ Holds k → Priced price items version store p l v s k
+  priced k h =
+      record {
+        items-named = λ i. at-price (Holds k) h ∙ rw i;
+        version-named = λ i j. at-price (Holds k) h ∙ rw (i, j);
+        store-named = λ i j m. at-price (Holds k) h ∙ rw (i, j, m);
+        none-named = λ i j m. at-price (Holds k) h ∙ rw (i, j, m);
+      }

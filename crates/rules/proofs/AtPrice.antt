@@ -1,4 +1,4 @@
--- The tests of the merges at a price's rates, as document 02 writes them. And at rates that are all multiplied by one number above 0 the tests are
+-- The tests of the merges at a price's rates, in EN, EM and F. And at rates that are all multiplied by one number above 0 the tests are
 -- the same.
 -- Assumes nothing.
 use Prim.Native.Nat.{ℕ, _+_, _*_, _<_}

@@ -5,10 +5,11 @@ use mathlib.Core.Path.{_≡_, refl, sym, ap, _∙_}
 use mathlib.Core.Bool.{Bool, true, false, not, _&&_, cond}
 use lib.Dec.{eqb}
 use borrow.Author.Tests.{eqb-true}
+use Rattle.rules.specs.declared.Cell.{Cell}
 use Rattle.rules.specs.declared.Merge.the-variants.{Both, Before, After, Pair}
 use Rattle.rules.specs.declared.Outcome.{Outcome}
 use Rattle.rules.specs.declared.Outcome.the-variants.{Advance, Merged}
-use Rattle.rules.specs.Rules.{Item, new, match, neither, size, isNew, isMatch, Tests, outcomeAt, fusesBefore, fusesAfter, Untouched, itemOf}
+use Rattle.rules.specs.Rules.{Item, new, match, neither, size, isNew, isMatch, Tests, outcomeAt, fusesBefore, fusesAfter, Untouched, itemOf, cellItem}
 
 pub size-item : (k s : ℕ) → size (itemOf k s) ≡ s
 size-item k s = go (eqb k 0) (eqb k 1)
@@ -48,16 +49,16 @@ pub item-of-one : (k s : ℕ) → k ≡ 1 → itemOf k s ≡ match s
 item-of-one k s e = ap (λ (j : ℕ). itemOf j s) e
 
 -- the rules by kinds
-abbrev pub outcomeBy : Tests → ℕ → ℕ → ℕ → ℕ → ℕ → ℕ → Item → Outcome
-outcomeBy t kb sb k s ka sa c =
-    cond (eqb k 1 && eqb kb 0 && eqb ka 0 && t .both s) (Merged (Both (sb + s + sa)))
-    (cond (eqb k 1 && eqb kb 0 && t .side s) (Merged (Before (sb + s)))
-    (cond (eqb k 1 && eqb ka 0 && t .side s) (Merged (After (s + sa)))
-    (cond (eqb k 1 && eqb ka 1 && not (eqb kb 0) && not (isNew c) && t .pair (s + sa)) (Merged (Pair (s + sa)))
+abbrev pub outcomeBy : Tests → Cell → Cell → Cell → Item → Outcome
+outcomeBy t b p a c =
+    cond (eqb (p .kind) 1 && eqb (b .kind) 0 && eqb (a .kind) 0 && t .both (p .size)) (Merged (Both (b .size + p .size + a .size)))
+    (cond (eqb (p .kind) 1 && eqb (b .kind) 0 && t .side (p .size)) (Merged (Before (b .size + p .size)))
+    (cond (eqb (p .kind) 1 && eqb (a .kind) 0 && t .side (p .size)) (Merged (After (p .size + a .size)))
+    (cond (eqb (p .kind) 1 && eqb (a .kind) 1 && not (eqb (b .kind) 0) && not (isNew c) && t .pair (p .size + a .size)) (Merged (Pair (p .size + a .size)))
     Advance)))
 
-pub outcome-by : (t : Tests) (kb sb k s ka sa : ℕ) (c : Item) → outcomeBy t kb sb k s ka sa c ≡ outcomeAt t (itemOf kb sb) (itemOf k s) (itemOf ka sa) c
-outcome-by t kb sb k s ka sa c = simp (new-item, match-item, size-item)
+pub by-kinds : (t : Tests) (b p a : Cell) (c : Item) {o : Outcome} → outcomeBy t b p a c ≡ o → o ≡ outcomeAt t (cellItem b) (cellItem p) (cellItem a) c
+by-kinds t b p a c h = sym h ∙ simp (new-item, match-item, size-item)
 
 -- what is no match is passed by
 pub outcome-no-match : (t : Tests) (b p a c : Item) → isMatch p ≡ false → outcomeAt t b p a c ≡ Advance

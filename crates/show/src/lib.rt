@@ -23,7 +23,7 @@ pub fn accept(list: &[u8], block: &[u8], store: &[u8]) -> Walked
     if 268435456 < store.len() {
         return walk::stopped(Fault::TooLong, 0);
     }
-    if !format::list_fits(list) {
+    if !checks::list_fits(list) {
         return walk::stopped(Fault::ListLength, 0);
     }
     let w = walk::walk(list, &list[0..0], store, Scope::Store);

@@ -122,7 +122,7 @@ fn judge(row: Row, seen: Seen, scope: Scope, limit: u32, version: &[u8], store: 
     requires { ⌜ (limit ≡ limitOf scope (now version)) × (seen .offset ≤ limit) ⌝ }
     ensures { λ r. ⌜ r ≡ judged (checks scope (now (version .entry)) (now (store .entry))) seen row ⌝ }
 {
-    if !format::well_formed(row) {
+    if !checks::well_formed(row) {
         return stop(Fault::Malformed, seen.place);
     }
     if adjacent(row, seen) {

@@ -4,7 +4,7 @@ use native.Mathlib.Omega.{arith}
 use mathlib.Core.Path.{ap}
 use lib.ListN.{length}
 use Rattle.answer.specs.declared.Told.{Told}
-use Rattle.answer.proofs.Laying.{given-of-words}
+use Rattle.answer.proofs.Laying.{Half, half-of-words, given-of-half}
 use borrow.Author.Needs.{needs}
 use Rattle.answer.proofs.give.Statement.{statement}
 use Rattle.answer.proofs.give.Tie as tie
@@ -39,19 +39,34 @@ put-word-requires-6 c κs = search needs
 put-word-requires-7 : tie.Need-put-word-requires-7
 put-word-requires-7 c κs = search needs
 
+-- at the place after the first four words
+half : (s : tie.After-area4) → let t = s .before .before .before .before .before .before .before .before .before .before .before .before .before .before .before .before .before .tell .result in
+    Half t (s .before .before .before .before .before .before .before .before .before .before .before .before .before .before .before .before .before .before .before .args .area .now) (s .before .put-word4 .last .0)
+half s =
+    half-of-words (s .before .before .before .before .before .before .before .before .before .before .before .before .before .before .before .before .before .before .before .args .area .now) (s .before .before .before .before .before .before .before .before .before .before .before .before .before .before .before .put-word .ensures)
+    (s .before .before .before .before .before .before .before .before .before .before .before .put-word2 .ensures) (s .before .before .before .before .before .before .put-word3 .ensures) (s .before .put-word4 .ensures)
+    (omega (arith, s .before .before .before .before .before .before .before .before .before .before .before .before .before .before .area .given, s .before .before .before .before .before .before .before .before .before .before .area2 .given, s .before .before .before .before .before .area3 .given, s .area4 .given))
+    (s .before .before .before .before .before .before .before .before .before .before .before .before .before .before .before .before .before .before .before .pre)
+
 put-word-requires-8 : tie.Need-put-word-requires-8
 put-word-requires-8 c κs =
-    let room : 32 ≤ length (c .before .before .before .put-word7 .last .0) = omega (arith, c .before .before .before .before .before .before .before .before .before .before .before .before .before .before .before .before .before .before .before .before .before .before .before .before .before .before .before .before .before .before .before .before .before .pre, c .before .before .before .before .before .before .before .before .before .before .before .before .before .before .before .before .before .before .before .before .before .before .before .before .before .before .before .before .area .given, c .before .before .before .before .before .before .before .before .before .before .before .before .before .before .before .before .before .before .before .before .before .before .before .before .area2 .given, c .before .before .before .before .before .before .before .before .before .before .before .before .before .before .before .before .before .before .before .area3 .given, c .before .before .before .before .before .before .before .before .before .before .before .before .before .before .area4 .given, c .before .before .before .before .before .before .before .before .before .before .area5 .given, c .before .before .before .before .before .before .area6 .given, c .before .before .area7 .given) in
+    let h = half (c .before .before .before .before .before .before .before .before .before .before .before .before .before .before) in
+    let room : 32 ≤ length (c .before .before .before .put-word7 .last .0) = omega (arith, h .long, h .room, c .before .before .before .before .before .before .before .before .before .before .area5 .given, c .before .before .before .before .before .before .area6 .given, c .before .before .area7 .given) in
     room
 
 same-length : tie.Need-same-length
-same-length c = omega (arith, c .before .before .before .before .before .before .before .before .before .before .before .before .before .before .before .before .before .before .before .before .before .before .before .before .before .before .before .before .before .before .before .area .given, c .before .before .before .before .before .before .before .before .before .before .before .before .before .before .before .before .before .before .before .before .before .before .before .before .before .before .before .area2 .given, c .before .before .before .before .before .before .before .before .before .before .before .before .before .before .before .before .before .before .before .before .before .before .area3 .given, c .before .before .before .before .before .before .before .before .before .before .before .before .before .before .before .before .before .area4 .given, c .before .before .before .before .before .before .before .before .before .before .before .before .before .area5 .given, c .before .before .before .before .before .before .before .before .before .area6 .given, c .before .before .before .before .before .area7 .given, c .before .area8 .given)
+same-length c =
+    let h = half (c .before .before .before .before .before .before .before .before .before .before .before .before .before .before .before .before .before) in
+    omega (arith, h .long, c .before .before .before .before .before .before .before .before .before .before .before .before .before .area5 .given, c .before .before .before .before .before .before .before .before .before .area6 .given, c .before .before .before .before .before .area7 .given, c .before .area8 .given)
 
 returns : tie.Need-returns
-returns c = (
-  ap (λ (t : Told). t .number) (c .before .before .before .before .before .before .before .before .before .before .before .before .before .before .before .before .before .before .before .before .before .before .before .before .before .before .before .before .before .before .before .before .before .before .tell .ensures),
-  given-of-words (c .before .before .before .before .before .before .before .before .before .before .before .before .before .before .before .before .before .before .before .before .before .before .before .before .before .before .before .before .before .before .before .before .before .before .before .before .args .a) (c .before .before .before .before .before .before .before .before .before .before .before .before .before .before .before .before .before .before .before .before .before .before .before .before .before .before .before .before .before .before .before .before .before .before .before .before .args .area .now) (c .before .before .before .before .before .before .before .before .before .before .before .before .before .before .before .before .before .before .before .before .before .before .before .before .before .before .before .before .before .before .before .before .before .before .tell .ensures) (c .before .before .before .before .before .before .before .before .before .before .before .before .before .before .before .before .before .before .before .before .before .before .before .before .before .before .before .before .before .before .before .before .put-word .ensures) (c .before .before .before .before .before .before .before .before .before .before .before .before .before .before .before .before .before .before .before .before .before .before .before .before .before .before .before .before .put-word2 .ensures) (c .before .before .before .before .before .before .before .before .before .before .before .before .before .before .before .before .before .before .before .before .before .before .before .put-word3 .ensures) (c .before .before .before .before .before .before .before .before .before .before .before .before .before .before .before .before .before .before .put-word4 .ensures) (c .before .before .before .before .before .before .before .before .before .before .before .before .before .before .put-word5 .ensures) (c .before .before .before .before .before .before .before .before .before .before .put-word6 .ensures) (c .before .before .before .before .before .before .put-word7 .ensures) (c .before .before .put-word8 .ensures),
-)
+returns c =
+    let s = c .before .before .before .before .before .before .before .before .before .before .before .before .before .before .before .before .before in
+    let told = s .before .before .before .before .before .before .before .before .before .before .before .before .before .before .before .before .before .tell .ensures in (
+      ap (λ (t : Told). t .number) told,
+      given-of-half (s .before .before .before .before .before .before .before .before .before .before .before .before .before .before .before .before .before .before .before .args .a) told (half s)
+          (c .before .before .before .before .before .before .before .before .before .before .before .before .before .before .put-word5 .ensures) (c .before .before .before .before .before .before .before .before .before .before .put-word6 .ensures) (c .before .before .before .before .before .before .put-word7 .ensures) (c .before .before .put-word8 .ensures),
+    )
 
 pub give-spec : {M : Type 1} → statement M
 give-spec =

@@ -7,7 +7,7 @@ use Rattle.choice.specs.Choice.{bitBytes}
 use Rattle.area.specs.Area.{over}
 use Rattle.rules.specs.Rules.{Item}
 use Rattle.linear.specs.Pass.{choiceOf, passItems}
-use Rattle.linear.specs.Machine.{endOf}
+use Rattle.linear.specs.Carried.{endOf}
 use Rattle.linear.proofs.Theorems.{pass-holds}
 use Rattle.linear.proofs.Passing.{runnable-of-loaded, looks-of-ran, few-of-ran, end-of-ran}
 use borrow.Author.Needs.{needs}

@@ -33,7 +33,12 @@ same-length : tie.Need-same-length
 same-length c = search needs
 
 returns : tie.Need-returns
-returns c = rw (← c .before .before .before .before .before .before .before .before .before .wide .ensures, ← c .before .before .before .wide2 .ensures) (written-append (omega arith) (written-append (omega arith) (c .before .before .before .before .before .before .before .before .before .before .before .before .before .before .put-field .ensures .0) (c .before .before .before .before .before .before .before .before .put-field2 .ensures .0)) (c .before .before .put-field3 .ensures .0), omega (arith, c .before .before .before .before .before .before .before .before .before .before .before .before .before .before .put-field .ensures .1, c .before .before .before .before .before .before .before .before .put-field2 .ensures .1, c .before .before .put-field3 .ensures .1))
+returns c =
+    let f = c .before .before .before .before .before .before .before .before .before .before .before .before .before .before .put-field .ensures in
+    let g = c .before .before .before .before .before .before .before .before .put-field2 .ensures in
+    let h = c .before .before .put-field3 .ensures in
+    rw (← c .before .before .before .before .before .before .before .before .before .wide .ensures, ← c .before .before .before .wide2 .ensures)
+    (written-append (omega arith) (written-append (omega arith) (f .0) (g .0)) (h .0), omega (arith, f .1, g .1, h .1))
 
 pub put-least-spec : {M : Type 1} → statement M
 put-least-spec =

@@ -17,21 +17,20 @@ array-share-prefix-digits c = search needs
 slice-aggregate-put-bytes : tie.Need-slice-aggregate-put-bytes
 slice-aggregate-put-bytes c = search needs
 
+-- the digits that were made
+digits : (s : tie.After-decimal) → take (s .decimal .result) (s .decimal .last .1 .0) ≡ decimal (s .before .before .before .args .n)
+digits s = s .decimal .ensures .1 .1 ∙ decimal-of-fewest (s .decimal .result) (s .before .before .before .args .n) (search needs) (s .decimal .ensures .1 .0)
+
 put-bytes-requires : tie.Need-put-bytes-requires
-put-bytes-requires c κs =
-    let g = c .before .before .before .before .before .args in
-    let text : take (c .before .before .decimal .result) (c .before .before .decimal .last .1 .0) ≡ decimal (g .n) = c .before .before .decimal .ensures .1 .1 ∙ decimal-of-fewest (c .before .before .decimal .result) (g .n) (search needs) (c .before .before .decimal .ensures .1 .0) in
-    omega (arith, ap length text, length-decimal (g .n))
+put-bytes-requires c κs = omega (arith, ap length (digits (c .before .before)), length-decimal (c .before .before .before .before .before .args .n))
 
 same-length : tie.Need-same-length
 same-length c = search needs
 
 returns : tie.Need-returns
 returns c =
-    let g = c .before .before .before .before .before .before .before .before .args in
-    let text : take (c .before .before .before .before .before .decimal .result) (c .before .before .before .before .before .decimal .last .1 .0) ≡ decimal (g .n) = c .before .before .before .before .before .decimal .ensures .1 .1 ∙ decimal-of-fewest (c .before .before .before .before .before .decimal .result) (g .n) (search needs) (c .before .before .before .before .before .decimal .ensures .1 .0) in
-    let w = rw text at (c .before .before .put-bytes .ensures) in
-    (w, omega (arith, w .place, length-decimal (g .n)))
+    let w = rw (digits (c .before .before .before .before .before)) at (c .before .before .put-bytes .ensures) in
+    (w, omega (arith, w .place, length-decimal (c .before .before .before .before .before .before .before .before .args .n)))
 
 pub put-number-spec : {M : Type 1} → statement M
 put-number-spec =

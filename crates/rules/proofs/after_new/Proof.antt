@@ -1,12 +1,9 @@
 -- `rules::after_new` meets its contract: each way out is the first rule that applies there, by kinds. Assumes nothing.
 use Prim.Native.Nat.{_+_, _*_}
 use native.Mathlib.Omega.{arith}
-use mathlib.Core.Path.{_≡_, sym, _∙_}
 use borrow.Author.Tests.{eq-eqb, ne-eqb, lt-ltb, le-ltb}
-use Rattle.rules.specs.declared.Merge.the-variants.{Both, Before}
-use Rattle.rules.specs.declared.Outcome.the-variants.{Advance, Merged}
 use Rattle.rules.specs.Rules.{testsOf}
-use Rattle.rules.proofs.ByKind.{and-false, not-one-of-zero, outcomeBy, outcome-by}
+use Rattle.rules.proofs.ByKind.{and-false, not-one-of-zero, by-kinds}
 use borrow.Author.Needs.{needs}
 use Rattle.rules.proofs.after_new.Statement.{statement}
 use Rattle.rules.proofs.after_new.Tie as tie
@@ -27,19 +24,17 @@ returns : tie.Need-returns
 returns c =
     let g = c .before .before .before .before .before .before .before .before .args in
     let s = c .before .before .before .before .before .before .before .storing .ensures .is in
-    let t = testsOf (g .rates) in
     λ second.
-    let is : outcomeBy t 0 (g .before) 1 (g .size) (g .after .kind) (g .after .size) second ≡ Merged (Both (g .before + g .size + g .after .size)) = simp (eq-eqb (g .after .kind) 0 (omega arith), lt-ltb (g .rates .byte .0 * g .size) (g .rates .kept .0 + g .rates .fresh .0) (omega arith)) in
-    sym is ∙ outcome-by t 0 (g .before) 1 (g .size) (g .after .kind) (g .after .size) second
+    by-kinds (testsOf (g .rates)) (record { kind = 0; size = g .before }) (record { kind = 1; size = g .size }) (g .after) second
+    (simp (eq-eqb (g .after .kind) 0 (omega arith), lt-ltb (g .rates .byte .0 * g .size) (g .rates .kept .0 + g .rates .fresh .0) (omega arith)))
 
 returns-2 : tie.Need-returns-2
 returns-2 c =
     let g = c .before .before .before .before .before .before .before .args in
     let s = c .before .before .before .before .before .before .storing .ensures .is in
-    let t = testsOf (g .rates) in
     λ second.
-    let is : outcomeBy t 0 (g .before) 1 (g .size) (g .after .kind) (g .after .size) second ≡ Advance = simp (eq-eqb (g .after .kind) 0 (omega arith), le-ltb (g .rates .byte .0 * g .size) (g .rates .kept .0 + g .rates .fresh .0) (omega arith), le-ltb (g .rates .byte .0 * g .size) (g .rates .kept .0) (omega arith), not-one-of-zero _ (c .before .before .before .if1 .taken)) in
-    sym is ∙ outcome-by t 0 (g .before) 1 (g .size) (g .after .kind) (g .after .size) second
+    by-kinds (testsOf (g .rates)) (record { kind = 0; size = g .before }) (record { kind = 1; size = g .size }) (g .after) second
+    (simp (eq-eqb (g .after .kind) 0 (omega arith), le-ltb (g .rates .byte .0 * g .size) (g .rates .kept .0 + g .rates .fresh .0) (omega arith), le-ltb (g .rates .byte .0 * g .size) (g .rates .kept .0) (omega arith), not-one-of-zero _ (c .before .before .before .if1 .taken)))
 
 add-t13 : tie.Need-add-t13
 add-t13 c = search needs
@@ -48,19 +43,17 @@ returns-3 : tie.Need-returns-3
 returns-3 c =
     let g = c .before .before .before .before .before .before .before .args in
     let s = c .before .before .before .before .before .before .storing .ensures .is in
-    let t = testsOf (g .rates) in
     λ second.
-    let is : outcomeBy t 0 (g .before) 1 (g .size) (g .after .kind) (g .after .size) second ≡ Merged (Before (g .before + g .size)) = simp (ne-eqb (g .after .kind) 0 (omega arith), lt-ltb (g .rates .byte .0 * g .size) (g .rates .kept .0) (omega arith)) in
-    sym is ∙ outcome-by t 0 (g .before) 1 (g .size) (g .after .kind) (g .after .size) second
+    by-kinds (testsOf (g .rates)) (record { kind = 0; size = g .before }) (record { kind = 1; size = g .size }) (g .after) second
+    (simp (ne-eqb (g .after .kind) 0 (omega arith), lt-ltb (g .rates .byte .0 * g .size) (g .rates .kept .0) (omega arith)))
 
 returns-4 : tie.Need-returns-4
 returns-4 c =
     let g = c .before .before .before .before .before .before .before .args in
     let s = c .before .before .before .before .before .before .storing .ensures .is in
-    let t = testsOf (g .rates) in
     λ second.
-    let is : outcomeBy t 0 (g .before) 1 (g .size) (g .after .kind) (g .after .size) second ≡ Advance = simp (ne-eqb (g .after .kind) 0 (omega arith), le-ltb (g .rates .byte .0 * g .size) (g .rates .kept .0) (omega arith), and-false) in
-    sym is ∙ outcome-by t 0 (g .before) 1 (g .size) (g .after .kind) (g .after .size) second
+    by-kinds (testsOf (g .rates)) (record { kind = 0; size = g .before }) (record { kind = 1; size = g .size }) (g .after) second
+    (simp (ne-eqb (g .after .kind) 0 (omega arith), le-ltb (g .rates .byte .0 * g .size) (g .rates .kept .0) (omega arith), and-false))
 
 pub after-new-spec : {M : Type 1} → statement M
 after-new-spec =

@@ -1,0 +1,2 @@
+pub mod Looks
+pub mod Machine
