@@ -1,7 +1,6 @@
 // The text of the program `partition` for files that were all read: the list of the least choice and the figures of both calls, or a refusal.
 //
 // Not here: what a bad file's text is (crate `program`), and reading and writing (crate `console`).
-ghost use mathlib.Core.Path.{_≡_};
 ghost use Rattle.format.specs.Record.{recordsOf};
 ghost use Rattle.price.specs.Price.{ratesOf};
 ghost use Rattle.report.specs.Text.{Written};
