@@ -15,6 +15,7 @@ use Rattle.format.specs.Record.{from, rowAt, recordOf, recordsOf, recordsFrom}
 use Rattle.format.specs.Meaning.{sizeOf}
 use Rattle.format.proofs.Rows.{from-next, from-none, recordsFrom-next, recordsFrom-none, recordsFrom-all, length-recordsOf}
 use Rattle.choice.specs.Choice.{Bit, keep, store, bitByte, bitBytes, IsChoice}
+use Rattle.choice.proofs.Lists.{length-bits, length-choice}
 use Rattle.area.specs.Area.{pasted, over}
 use Rattle.area.proofs.Filling.{Filling, filling-start, filling-put, filling-end}
 use Rattle.rules.specs.Rules.{Item, new, match, neither, size, itemOf}
@@ -25,17 +26,7 @@ use Rattle.machine.specs.Machine.{itemIn}
 use Rattle.linear.specs.Carried.{endOf, Covering}
 use Rattle.machine.proofs.Gap.{rest-below}
 
--- ---- lengths, and one byte stored
-
-pub length-choice : (rs : List Record) (c : List Bit) → IsChoice rs c → length c ≡ length rs
-length-choice [] [] h = refl
-length-choice [] (b ∷ c) h = absurd h
-length-choice (r ∷ rs) [] h = absurd h
-length-choice (r ∷ rs) (b ∷ c) h = ap suc (length-choice rs c (h .1))
-
-pub length-bitBytes : (c : List Bit) → length (bitBytes c) ≡ length c
-length-bitBytes [] = refl
-length-bitBytes (b ∷ c) = ap suc (length-bitBytes c)
+-- ---- one byte stored
 
 set-pasted : (l : List ℕ) (i b : ℕ) → i < length l → set l i b ≡ pasted i (b ∷ []) l
 set-pasted l i b h = set-split l i b h ∙ sym (ap (λ (j : ℕ). (take i l ++ (b ∷ [])) ++ drop j l) (add-one i) ∙ append-snoc (take i l) b (drop (suc i) l))
@@ -115,7 +106,7 @@ module _ (m : Machine) (list before : List ℕ) (h : Covering m list before) whe
   fits : length (bitBytes (choiceOf (recordsOf list) (endOf m))) ≤ length before
   fits =
       let c = choiceOf (recordsOf list) (endOf m) in
-      omega (arith, length-bitBytes c, length-choice (recordsOf list) c (h .covered), h .room)
+      omega (arith, length-bits c, length-choice (recordsOf list) c (h .covered), h .room)
 
   pub off-end : (area : List ℕ) (at u i : ℕ) → Off m list before area at u i → length list / 12 ≤ i → area ≡ over (bitBytes (choiceOf (recordsOf list) (endOf m))) before
   unfolding choiceOf

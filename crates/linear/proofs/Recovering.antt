@@ -103,6 +103,11 @@ record Found (j : Bool) (js : List Record) (is : List Item) : Type 0 where
   begins : firstKept choice ≡ not (isNew (first is))
   alone : (k : Bool) → Before j k → storesAlone k js choice ≡ false
 
+-- a record stored before a choice of js
+found-stored : (r : Record) (js : List Record) {j j′ : Bool} {t : ℕ} {is is′ : List Item} → May (freedom r) store → (i : Found j′ js is′) → items (join (New (sizeOf r)) (listOf js (i .choice))) ≡ new t ∷ is
+    → ((k : Bool) → Before j k → storesAlone k (r ∷ js) (store ∷ i .choice) ≡ false) → Found j (r ∷ js) (new t ∷ is)
+found-stored r js may i e f = record { choice = store ∷ i .choice; fits = (may, i .fits); listed = e; begins = refl; alone = f }
+
 -- a match before js: kept, held or not, or stored where it is not held
 module _ (s : ℕ) (a : Source) (js : List Record) (ih : (j : Bool) (is : List Item) → Tidy is → Fused j (items js) is → Found j js is) (apart : joinsFirst (Match s a) js ≡ false) where
   found-kept : (is : List Item) → Tidy is → Fused false (items js) is → Found false (Match s a ∷ js) (itemFor (Match s a) ∷ is)
@@ -121,43 +126,19 @@ module _ (s : ℕ) (a : Source) (js : List Record) (ih : (j : Bool) (is : List I
   found-match false e j is n (keepMatch {ys} d) = subst (λ (x : Bool). Found false (Match s a ∷ js) (drawn x s ∷ ys)) e (found-kept ys n d)
   found-match false e j is n (takeMatch {ys} d) =
       let i = ih false ys (n .1) d in
-      record {
-        choice = store ∷ i .choice;
-        fits = (rw e tt, i .fits);
-        listed = items-join s (listOf js (i .choice)) ys (i .listed) (n .0);
-        begins = refl;
-        alone = λ k b. rw b (i .alone false tt);
-      }
+      found-stored (Match s a) js (rw e tt) i (items-join s (listOf js (i .choice)) ys (i .listed) (n .0)) (λ k b. rw b (i .alone false tt))
   found-match false e j is n (moreMatch {b = t} {ys} d) =
       let i = ih true (new t ∷ ys) n d in
-      record {
-        choice = store ∷ i .choice;
-        fits = (rw e tt, i .fits);
-        listed = items-join-new s t (listOf js (i .choice)) ys (i .listed);
-        begins = refl;
-        alone = λ k b. rw (i .begins, and-false k) (i .alone false refl);
-      }
+      found-stored (Match s a) js (rw e tt) i (items-join-new s t (listOf js (i .choice)) ys (i .listed)) (λ k b. rw (i .begins, and-false k) (i .alone false refl))
 
 found : {j : Bool} (js : List Record) (is : List Item) → Settled js → Tidy is → Fused j (items js) is → Found j js is
 found [] is h n none = record { choice = []; fits = tt; listed = refl; begins = refl; alone = λ k b. refl }
 found (New s ∷ js) is h n (takeNew {ys} d) =
     let i = found js ys (h .1) (n .1) d in
-    record {
-      choice = store ∷ i .choice;
-      fits = (refl, i .fits);
-      listed = items-join s (listOf js (i .choice)) ys (i .listed) (n .0);
-      begins = refl;
-      alone = λ k b. i .alone false tt;
-    }
+    found-stored (New s) js refl i (items-join s (listOf js (i .choice)) ys (i .listed) (n .0)) (λ k b. i .alone false tt)
 found (New s ∷ js) is h n (moreNew {b = t} {ys} d) =
     let i = found js (new t ∷ ys) (h .1) n d in
-    record {
-      choice = store ∷ i .choice;
-      fits = (refl, i .fits);
-      listed = items-join-new s t (listOf js (i .choice)) ys (i .listed);
-      begins = refl;
-      alone = λ k b. i .alone false refl;
-    }
+    found-stored (New s) js refl i (items-join-new s t (listOf js (i .choice)) ys (i .listed)) (λ k b. i .alone false refl)
 found {j} (Match s a ∷ js) is h n d = found-match s a js (λ x is. found {j = x} js is (h .1)) (h .0) (a .held) refl j is n d
 
 -- ---- over the records as handed in

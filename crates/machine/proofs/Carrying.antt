@@ -63,51 +63,44 @@ module _ (ks ss : List ℕ) where
 -- ---- a move carried out
 
 module _ (m : Machine) (hk : length (m .kinds) ≡ 4098) (hs : length (m .sizes) ≡ 4098) (v : Move) (reached : m .right < 4097) where
+  -- the arrays after the store at p's place
+  abbrev ks : List ℕ
+  ks = set (m .kinds) (m .right) (v .stays .kind)
+
+  abbrev ss : List ℕ
+  ss = set (m .sizes) (m .right) (v .stays .size)
+
   -- made at p's place or before it
   module _ (g : v .at ≤ m .right) where
     put-left : v .left ≡ v .at + 1 → leftOf (moved m v) ≡ cellItem (v .made) ∷ below (m .kinds) (m .sizes) (v .at)
     put-left e =
-        let ks = set (m .kinds) (m .right) (v .stays .kind) in
-        let ss = set (m .sizes) (m .right) (v .stays .size) in
-        let lk : v .at < length ks = simp length-set (omega arith) in
-        let ls : v .at < length ss = simp length-set (omega arith) in
         ap (below (set ks (v .at) (v .made .kind)) (set ss (v .at) (v .made .size))) e
-        ∙ below-put ks ss (v .at) (v .made .kind) (v .made .size) lk ls
+        ∙ below-put ks ss (v .at) (v .made .kind) (v .made .size) (simp length-set (omega arith)) (simp length-set (omega arith))
         ∙ cons-of refl (below-set (m .kinds) (m .sizes) (m .right) (v .stays .kind) (v .stays .size) (v .at) g)
 
     put-right : m .right < v .right → fromPlace (moved m v .kinds) (moved m v .sizes) (v .right) ≡ fromPlace (m .kinds) (m .sizes) (v .right)
     put-right h =
-        let ks = set (m .kinds) (m .right) (v .stays .kind) in
-        let ss = set (m .sizes) (m .right) (v .stays .size) in
         fromPlace-set ks ss (v .at) (v .made .kind) (v .made .size) (v .right) (omega arith)
         ∙ fromPlace-set (m .kinds) (m .sizes) (m .right) (v .stays .kind) (v .stays .size) (v .right) h
 
   put-rear : v .at < 4097 → itemIn (moved m v) 4097 ≡ itemIn m 4097
-  put-rear h =
-      rear-set (set (m .kinds) (m .right) (v .stays .kind)) (set (m .sizes) (m .right) (v .stays .size)) (v .at) (v .made .kind) (v .made .size) h
-      ∙ rear-set (m .kinds) (m .sizes) (m .right) (v .stays .kind) (v .stays .size) reached
+  put-rear h = rear-set ks ss (v .at) (v .made .kind) (v .made .size) h ∙ rear-set (m .kinds) (m .sizes) (m .right) (v .stays .kind) (v .stays .size) reached
 
   -- made after p's place
   module _ (e : v .at ≡ m .right + 1) (h : m .right < 4096) where
     ahead-left : v .left ≤ m .right → leftOf (moved m v) ≡ below (m .kinds) (m .sizes) (v .left)
     ahead-left g =
-        let ks = set (m .kinds) (m .right) (v .stays .kind) in
-        let ss = set (m .sizes) (m .right) (v .stays .size) in
         below-set ks ss (v .at) (v .made .kind) (v .made .size) (v .left) (omega arith)
         ∙ below-set (m .kinds) (m .sizes) (m .right) (v .stays .kind) (v .stays .size) (v .left) g
 
     ahead-right : fromPlace (moved m v .kinds) (moved m v .sizes) (m .right) ≡ cellItem (v .stays) ∷ cellItem (v .made) ∷ rest (afterOf m)
     ahead-right =
         let j = m .right in
-        let ks = set (m .kinds) j (v .stays .kind) in
-        let ss = set (m .sizes) j (v .stays .size) in
-        let lk : v .at < length ks = simp length-set (omega arith) in
-        let ls : v .at < length ss = simp length-set (omega arith) in
         fromPlace-next (moved m v .kinds) (moved m v .sizes) j (omega arith)
         ∙ cons-of
         (at-other ks ss (v .at) (v .made .kind) (v .made .size) j (ne-of-lt j (v .at) (omega arith)) ∙ at-same (m .kinds) (m .sizes) j (v .stays .kind) (v .stays .size) (omega arith) (omega arith))
         (ap (fromPlace (moved m v .kinds) (moved m v .sizes)) (sym e)
-        ∙ fromPlace-put ks ss (v .at) (v .made .kind) (v .made .size) lk ls (omega arith)
+        ∙ fromPlace-put ks ss (v .at) (v .made .kind) (v .made .size) (simp length-set (omega arith)) (simp length-set (omega arith)) (omega arith)
         ∙ cons-of refl
         (fromPlace-set (m .kinds) (m .sizes) j (v .stays .kind) (v .stays .size) (v .at + 1) (omega arith)
         ∙ sym (ap rest (ap (fromPlace (m .kinds) (m .sizes)) (sym e)) ∙ rest-from (m .kinds) (m .sizes) (v .at))))

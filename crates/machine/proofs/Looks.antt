@@ -9,8 +9,8 @@ use lib.ListN.{length}
 use Rattle.rules.specs.declared.Merge.the-variants.{Both, Before, After, Pair}
 use Rattle.rules.specs.declared.Outcome.the-variants.{Advance, Merged}
 use Rattle.rules.specs.Rules.{Item, new, match, neither, isNew, Tests}
-use Rattle.machine.specs.Looks.{first, Look, ended, lookAt, mergeIn, joined}
-use Rattle.machine.proofs.Fusing.{Starts, Tidy, starts-cons, Turns, turns-refl, turns-joined, fuses-cons, fuse-both, fuse-before, fuse-after, fuse-pair}
+use Rattle.machine.specs.Looks.{bytes, first, Look, ended, lookAt, mergeIn, joined}
+use Rattle.machine.proofs.Fusing.{Starts, Tidy, Fuses, weigh, starts-cons, Turns, turns-refl, turns-joined, fuses-cons, fuse-both, fuse-before, fuse-after, fuse-pair}
 
 -- the tests are such that a merge lowers the weight, and merge 1 takes what merge 2 takes
 pub record Pays (t : Tests) (w : Item → ℕ) : Type 0 where
@@ -32,65 +32,45 @@ pub data Seen (t : Tests) : List Item → Item → List Item → Look → Type 0
   joins-pair : {x : Item} {b c : ℕ} {l r : List Item} → isNew x ≡ false → isNew (first r) ≡ false → t .pair (b + c) ≡ true
       → Seen t (x ∷ l) (match b) (match c ∷ r) (ended (Merged (Pair (b + c))) (x ∷ l) (match b) (match c ∷ r))
 
-tidy-made : (x : Item) (s : ℕ) (r : List Item) → isNew x ≡ false → Tidy (new s ∷ r) → Tidy (x ∷ new s ∷ r)
-tidy-made (new a) s r e h = let z : _≡_ {A = ℕ} 0 1 = cc in absurd (omega arith)
-tidy-made (match a) s r e h = h
-tidy-made (neither a) s r e h = h
+tidy-made : (x : Item) (s : ℕ) (y r : List Item) → isNew x ≡ false → (Tidy y → Tidy (new s ∷ r)) → Tidy (x ∷ y) → Tidy (x ∷ new s ∷ r)
+tidy-made (new a) s y r e f h = let z : _≡_ {A = ℕ} 0 1 = cc in absurd (omega arith)
+tidy-made (match a) s y r e f h = f h
+tidy-made (neither a) s y r e f h = f h
 
-tidy-tail : (x : Item) (r : List Item) → Tidy (x ∷ r) → Tidy r
-tidy-tail (new a) r h = h .1
-tidy-tail (match a) r h = h
-tidy-tail (neither a) r h = h
+-- a merge that makes a new item of the first items of x, what they weigh falling
+module _ {w : Item → ℕ} {s : ℕ} {r : List Item} where
+  -- the first of which is new
+  turns-new : {a : ℕ} {x : List Item} → (Tidy (new a ∷ x) → Tidy (new s ∷ r)) → ((xs : List Item) → Fuses xs (new a ∷ x) → Fuses xs (new s ∷ r))
+      → bytes (new s ∷ r) ≡ bytes (new a ∷ x) → weigh w (new s ∷ r) < weigh w (new a ∷ x) → Turns w 1 (new a ∷ x) (new s ∷ r)
+  turns-new f g k h = record { some = λ u. u; starts = λ u. u; ahead = refl; tidy = f; fuses = g; kept = k; lower = omega (arith, h) }
+
+  -- behind an item that is not
+  turns-behind : {b : ℕ} {x : List Item} (y : Item) → isNew y ≡ false → (Tidy (match b ∷ x) → Tidy (new s ∷ r)) → ((xs : List Item) → Fuses xs (match b ∷ x) → Fuses xs (new s ∷ r))
+      → bytes (new s ∷ r) ≡ bytes (match b ∷ x) → weigh w (new s ∷ r) < weigh w (match b ∷ x) → Turns w 1 (y ∷ match b ∷ x) (y ∷ new s ∷ r)
+  turns-behind {b} {x} y n f g k h =
+      record {
+        some = λ u. u;
+        starts = starts-cons y (match b ∷ x) (new s ∷ r) (λ u. u);
+        ahead = refl;
+        tidy = tidy-made y s (match b ∷ x) r n f;
+        fuses = λ xs. fuses-cons g;
+        kept = omega (arith, k);
+        lower = omega (arith, h);
+      }
 
 module _ (t : Tests) (w : Item → ℕ) (pays : Pays t w) where
   turns-both : (a b c : ℕ) (r : List Item) → t .both b ≡ true → Turns w 1 (new a ∷ match b ∷ new c ∷ r) (new (a + b + c) ∷ r)
-  turns-both a b c r e =
-      record {
-        some = λ u. u;
-        starts = λ u. u;
-        ahead = refl;
-        tidy = λ u. u .1;
-        fuses = λ xs. fuse-both;
-        kept = omega arith;
-        lower = omega (arith, pays .both-pays a b c e);
-      }
+  turns-both a b c r e = turns-new (λ u. u .1) (λ xs. fuse-both) (omega arith) (omega (arith, pays .both-pays a b c e))
 
   turns-before : (a b : ℕ) (r : List Item) → t .side b ≡ true → isNew (first r) ≡ false → Turns w 1 (new a ∷ match b ∷ r) (new (a + b) ∷ r)
-  turns-before a b r e n =
-      record {
-        some = λ u. u;
-        starts = λ u. u;
-        ahead = refl;
-        tidy = λ u. (n, u .1);
-        fuses = λ xs. fuse-before;
-        kept = omega arith;
-        lower = omega (arith, pays .before-pays a b e);
-      }
+  turns-before a b r e n = turns-new (λ u. (n, u .1)) (λ xs. fuse-before) (omega arith) (omega (arith, pays .before-pays a b e))
 
   turns-after : (x : Item) (b c : ℕ) (r : List Item) → isNew x ≡ false → t .side b ≡ true → Turns w 1 (x ∷ match b ∷ new c ∷ r) (x ∷ new (b + c) ∷ r)
-  turns-after x b c r n e =
-      record {
-        some = λ u. u;
-        starts = starts-cons x (match b ∷ new c ∷ r) (new (b + c) ∷ r) (λ u. u);
-        ahead = refl;
-        tidy = λ u. tidy-made x (b + c) r n (tidy-tail x (match b ∷ new c ∷ r) u);
-        fuses = λ xs. fuses-cons (λ zs. fuse-after);
-        kept = omega arith;
-        lower = omega (arith, pays .after-pays b c e);
-      }
+  turns-after x b c r n e = turns-behind x n (λ u. u) (λ xs. fuse-after) (omega arith) (omega (arith, pays .after-pays b c e))
 
   turns-pair : (x : Item) (b c : ℕ) (r : List Item) → isNew x ≡ false → isNew (first r) ≡ false → t .pair (b + c) ≡ true
       → Turns w 1 (x ∷ match b ∷ match c ∷ r) (x ∷ new (b + c) ∷ r)
-  turns-pair x b c r n m e =
-      record {
-        some = λ u. u;
-        starts = starts-cons x (match b ∷ match c ∷ r) (new (b + c) ∷ r) (λ u. u);
-        ahead = refl;
-        tidy = λ u. tidy-made x (b + c) r n (m, tidy-tail x (match b ∷ match c ∷ r) u);
-        fuses = λ xs. fuses-cons (λ zs. fuse-pair);
-        kept = omega arith;
-        lower = omega (arith, pays .pair-pays b c e);
-      }
+  turns-pair x b c r n m e = turns-behind x n (λ u. (m, u)) (λ xs. fuse-pair) (omega arith) (omega (arith, pays .pair-pays b c e))
 
   -- ---- a look is one of the five
 

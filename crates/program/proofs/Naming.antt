@@ -10,7 +10,7 @@ use Rattle.console.specs.declared.Read.{Read}
 use Rattle.console.specs.declared.PriceFile.{PriceFile}
 use Rattle.console.specs.declared.PriceFile.the-variants.{Holds, Bad}
 use Rattle.report.specs.Text.{badFileText}
-use Rattle.program.specs.Program.{programText}
+use Rattle.listing.specs.Program.{programText}
 use Rattle.program.specs.Run.{fileIn, priceOfFile, textOfFiles, runText, priceName, itemsName, versionName, storeName}
 
 abbrev textRead : (price items version store : List ℕ) (p l v s : Read) → List ℕ

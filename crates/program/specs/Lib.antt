@@ -1,2 +1,1 @@
-pub mod Program
 pub mod Run

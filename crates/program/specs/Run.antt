@@ -1,16 +1,16 @@
 -- A run of the program `partition`, document 01, "Sheets": its whole text, for what came of reading each of the four files.
 -- Assumes nothing.
-use Prim.Native.Nat.{ℕ, _≤_}
+use Prim.Native.Nat.{ℕ}
 use mathlib.Core.Bool.{cond}
 use mathlib.Core.List.{List, [], _∷_}
-use lib.ListN.{length, take}
+use lib.ListN.{take}
 use Rattle.io.specs.Counts.{Counts}
 use Rattle.console.specs.declared.Read.{Read}
 use Rattle.console.specs.declared.PriceFile.{PriceFile}
 use Rattle.console.specs.declared.PriceFile.the-variants.{Holds, Bad}
 use Rattle.console.specs.Price.{priceIn}
 use Rattle.report.specs.Text.{badFileText}
-use Rattle.program.specs.Program.{programText}
+use Rattle.listing.specs.Program.{programText, Fits}
 
 -- what came of reading a file: its bytes; or it is bad, as one that is missing or longer than 65,536 bytes
 pub data File : Type 0 where
@@ -49,12 +49,6 @@ runText price items version store = textOfFiles (priceOfFile price) items versio
 -- what came of reading a file into a buffer, by what the reading says
 abbrev pub fileIn : Read → List ℕ → File
 fileIn r buffer = cond (r .bad) bad (whole (take (r .bytes) buffer))
-
--- an area that is long enough for the text of files of at most 65,536 bytes
-pub record Fits (list v text : List ℕ) : Type 0 where
-  pub list-most : length list ≤ 65536
-  pub version-most : length v ≤ 65536
-  pub in-text : 262144 ≤ length text
 
 -- what was read of the files into buffers, price (p), items (l), version (v) and store (s), and an area that is long enough for the text
 pub record Loaded (price items version store : List ℕ) (p l v s : Read) (text : List ℕ) : Type 0 where

@@ -27,7 +27,7 @@ use Rattle.writer.specs.Decide.{figures, Decided}
 use Rattle.writer.proofs.Deciding.{decided-answer, list-handed-on, list-room}
 use Rattle.call_partition.specs.Partition.{Partitioned}
 use Rattle.report.specs.Text.{reportText}
-use Rattle.program.specs.Program.{textFor, Roomy}
+use Rattle.listing.specs.Program.{textFor, Roomy}
 
 module _ (price : Price) (list v st choice area block text : List ℕ) (roomy : Roomy list v choice area block text) where
   ruling-is : partitionRuling price list v st (areas choice area block) ≡ findings price list v st

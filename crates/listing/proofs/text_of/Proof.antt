@@ -1,8 +1,8 @@
--- `program::text_of` meets its contract: the pass's refusal is partition's, and its figures go into the text. Assumes nothing.
-use Rattle.program.proofs.Telling.{stop-of-answer, figures-of-answer}
+-- `listing::text_of` meets its contract: the pass's refusal is partition's, and its figures go into the text. Assumes nothing.
+use Rattle.listing.proofs.Telling.{stop-of-answer, figures-of-answer}
 use borrow.Author.Needs.{needs}
-use Rattle.program.proofs.text_of.Statement.{statement}
-use Rattle.program.proofs.text_of.Tie as tie
+use Rattle.listing.proofs.text_of.Statement.{statement}
+use Rattle.listing.proofs.text_of.Tie as tie
 
 pass-requires : tie.Need-pass-requires
 pass-requires c κs = search needs

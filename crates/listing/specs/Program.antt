@@ -34,3 +34,9 @@ pub record Roomy (list v choice area block text : List ℕ) : Type 0 where
   pub in-area : length list ≤ length area
   pub in-block : length v ≤ length block
   pub in-text : 44 * (length list / 12) + 160 ≤ length text
+
+-- an area that is long enough for the text of files of at most 65,536 bytes
+pub record Fits (list v text : List ℕ) : Type 0 where
+  pub list-most : length list ≤ 65536
+  pub version-most : length v ≤ 65536
+  pub in-text : 262144 ≤ length text

@@ -1,11 +1,11 @@
--- `program::listed` meets its contract: partition's refusal, or its list with both figures. Assumes nothing.
+-- `listing::listed` meets its contract: partition's refusal, or its list with both figures. Assumes nothing.
 use Prim.Native.Nat.{ℕ, _*_, _-_}
 use native.Mathlib.Omega.{arith}
 use mathlib.Core.Path.{ap}
-use Rattle.program.proofs.Telling.{stop-of-answer, list-in-area, text-room, text-listed}
+use Rattle.listing.proofs.Telling.{stop-of-answer, list-in-area, text-room, text-listed}
 use borrow.Author.Needs.{needs}
-use Rattle.program.proofs.listed.Statement.{statement}
-use Rattle.program.proofs.listed.Tie as tie
+use Rattle.listing.proofs.listed.Statement.{statement}
+use Rattle.listing.proofs.listed.Tie as tie
 
 partition-requires : tie.Need-partition-requires
 partition-requires c κs = search needs
