@@ -34,7 +34,7 @@ use Rattle.area.specs.Area.{Areas}
 use Rattle.price.specs.declared.Price.{Price}
 use Rattle.price.specs.Price.{priceFits, ratesOf, RatesFit}
 use Rattle.price.proofs.Bounds.{rates-fit}
-use Rattle.admit.specs.Admit.{lengthsFit, areasFit, inputsRuling, roomsRuling, coverRuling, admitRuling, partitionRuling, findings, LongEnough}
+use Rattle.admit.specs.Admit.{lengthsFit, areasFit, firstRuling, roomsRuling, coverRuling, admitRuling, partitionRuling, findings, LongEnough}
 
 -- ---- the list beside version and store
 
@@ -84,8 +84,8 @@ areas-of-most list v c a b i j k =
     and-of-both (leb (length list / 12) c && leb (length list) a) (leb (length v) b)
     (and-of-both (leb (length list / 12) c) (leb (length list) a) (le-leb (length list / 12) c i) (le-leb (length list) a j)) (le-leb (length v) b k)
 
--- what inputs have that pass checks 1, 2 and 3
-pub record Inputs (price : Price) (list v st : List ℕ) : Type 0 where
+-- what passes checks 1, 2 and 3
+pub record Fits (price : Price) (list v st : List ℕ) : Type 0 where
   pub price-fits : priceFits price ≡ true
   pub rates-fit : RatesFit (ratesOf price)
   pub lengths-fit : lengthsFit v st ≡ true
@@ -93,8 +93,8 @@ pub record Inputs (price : Price) (list v st : List ℕ) : Type 0 where
   pub store-most : length st ≤ storeMost
   pub counted : Counted list
 
-pub inputs-of-fine : (price : Price) (list v st : List ℕ) → inputsRuling price list v st ≡ Fine → Inputs price list v st
-inputs-of-fine price list v st h =
+pub fits-of-first : (price : Price) (list v st : List ℕ) → firstRuling price list v st ≡ Fine → Fits price list v st
+fits-of-first price list v st h =
     let three = need (listFits list) fault.ListLength 0 in
     let two = need (lengthsFit v st) fault.TooLong 0 in
     let h₁ = fine-of-then (need (priceFits price) fault.Price 0) (two then three) h in
@@ -115,19 +115,19 @@ inputs-of-fine price list v st h =
 module _ (price : Price) (list v st : List ℕ) (c a b : ℕ) where
   -- each part of admitted inputs
   record Passed : Type 0 where
-    inputs : inputsRuling price list v st ≡ Fine
+    first : firstRuling price list v st ≡ Fine
     rooms : roomsRuling list v c a b ≡ Fine
     cover : coverRuling list v st ≡ Fine
 
   passed-of-fine : admitRuling price list v st c a b ≡ Fine → Passed
   passed-of-fine h =
-      let k = fine-of-then (inputsRuling price list v st) (roomsRuling list v c a b then coverRuling list v st) h in
+      let k = fine-of-then (firstRuling price list v st) (roomsRuling list v c a b then coverRuling list v st) h in
       let l = fine-of-then (roomsRuling list v c a b) (coverRuling list v st) (k .1) in
-      record { inputs = k .0; rooms = l .0; cover = l .1 }
+      record { first = k .0; rooms = l .0; cover = l .1 }
 
   -- what admitted inputs have
   pub record Sound : Type 0 where
-    pub inputs : Inputs price list v st
+    pub fits : Fits price list v st
     pub in-choice : length list / 12 ≤ c
     pub in-area : length list ≤ a
     pub in-block : length v ≤ b
@@ -141,7 +141,7 @@ module _ (price : Price) (list v st : List ℕ) (c a b : ℕ) where
   sound-of-fine h =
       let p = passed-of-fine h in
       let m = areas-most list v c a b (areas-of-fine h) in
-      record { inputs = inputs-of-fine price list v st (p .inputs); in-choice = m .0; in-area = m .1; in-block = m .2; covered = covered-of-fine list v st (p .cover) }
+      record { fits = fits-of-first price list v st (p .first); in-choice = m .0; in-area = m .1; in-block = m .2; covered = covered-of-fine list v st (p .cover) }
 
 -- all checks are passed
 pub record Admitted (price : Price) (list v st : List ℕ) (c a b : ℕ) : Type 0 where
@@ -164,7 +164,7 @@ findings-of-long price list v st x h =
     (h ∙ sym (areas-of-most list v (length list / 12) (length list) (length v) (omega arith) (omega arith) (omega arith)))
 
 pub stop-of-short : (price : Price) (list v st : List ℕ) (c a b : ℕ) → areasFit list v c a b ≡ false → (x : Refusal) × (admitRuling price list v st c a b ≡ Stop x)
-stop-of-short price list v st c a b h = let x = go (inputsRuling price list v st) (coverRuling list v st) in (x .0, rw h (x .1))
+stop-of-short price list v st c a b h = let x = go (firstRuling price list v st) (coverRuling list v st) in (x .0, rw h (x .1))
   where
     go : (q r : Ruling) → (x : Refusal) × (q then need false fault.AreaTooShort 0 then r ≡ Stop x)
     go Fine r = (refuse fault.AreaTooShort 0, refl)

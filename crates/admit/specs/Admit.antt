@@ -27,8 +27,8 @@ abbrev pub areasFit : List ℕ → List ℕ → ℕ → ℕ → ℕ → Bool
 areasFit list v c a b = leb (length list / 12) c && leb (length list) a && leb (length v) b
 
 -- checks 1, 2 and 3: the price, the lengths of version and store, the length of the list
-abbrev pub inputsRuling : Price → List ℕ → List ℕ → List ℕ → Ruling
-inputsRuling price list v st = need (priceFits price) fault.Price 0 then need (lengthsFit v st) fault.TooLong 0 then need (listFits list) fault.ListLength 0
+abbrev pub firstRuling : Price → List ℕ → List ℕ → List ℕ → Ruling
+firstRuling price list v st = need (priceFits price) fault.Price 0 then need (lengthsFit v st) fault.TooLong 0 then need (listFits list) fault.ListLength 0
 
 -- check 9: rooms of lengths c, a and b for choice, list and stored block
 abbrev pub roomsRuling : List ℕ → List ℕ → ℕ → ℕ → ℕ → Ruling
@@ -40,7 +40,7 @@ coverRuling list v st = walkRuling (checks scope.Version v st) list then need (e
 
 -- "Order": 1, 2, 3; then 9; then record by record 4, 5, 6, 7, 8, and the short end. In rooms of lengths c, a and b
 abbrev pub admitRuling : Price → List ℕ → List ℕ → List ℕ → ℕ → ℕ → ℕ → Ruling
-admitRuling price list v st c a b = inputsRuling price list v st then roomsRuling list v c a b then coverRuling list v st
+admitRuling price list v st c a b = firstRuling price list v st then roomsRuling list v c a b then coverRuling list v st
 
 -- all checks of a call of partition or pass, in the areas that are lent to it
 abbrev pub partitionRuling : Price → List ℕ → List ℕ → List ℕ → Areas → Ruling

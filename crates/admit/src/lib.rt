@@ -1,10 +1,10 @@
 // The checks that partition, pass, estimate and commit make of their inputs and areas, in their order.
 //
-// Three parts, each a function: what is found in price and lengths; the rooms; the list beside version and store.
+// Three parts, each a function: price and lengths; the rooms; the list beside version and store.
 ghost use mathlib.Core.Path.{_≡_};
 ghost use Rattle.format.specs.Record.{recordsOf};
 ghost use Rattle.walk.specs.Walked.{Lengths, walked};
-ghost use Rattle.admit.specs.Admit.{lengthsFit, areasFit, inputsRuling, roomsRuling, coverRuling, admitRuling};
+ghost use Rattle.admit.specs.Admit.{lengthsFit, areasFit, firstRuling, roomsRuling, coverRuling, admitRuling};
 use format::Fault;
 use format::Ruling;
 use price::Price;
@@ -15,10 +15,10 @@ use walk::Walked;
 fn lengths_fit(version: &[u8], store: &[u8]) -> bool
     ensures { λ r. ⌜ r ≡ lengthsFit (now (version .entry)) (now (store .entry)) ⌝ }
 {
-    if 16777216 < version.len() {
+    if format::VERSION_MOST < version.len() {
         return false;
     }
-    store.len() <= 268435456
+    store.len() <= format::STORE_MOST
 }
 
 // Whether rooms of these lengths are long enough for choice, list and stored block.
@@ -41,8 +41,8 @@ pub fn areas_fit(
 }
 
 // Checks 1, 2 and 3.
-pub fn inputs(price: Price, list: &[u8], version: &[u8], store: &[u8]) -> Ruling
-    ensures { λ r. ⌜ r ≡ inputsRuling price (now (list .entry)) (now (version .entry)) (now (store .entry)) ⌝ }
+pub fn first_checks(price: Price, list: &[u8], version: &[u8], store: &[u8]) -> Ruling
+    ensures { λ r. ⌜ r ≡ firstRuling price (now (list .entry)) (now (version .entry)) (now (store .entry)) ⌝ }
 {
     if !price::in_range(price) {
         return walk::stop(Fault::Price, 0);
@@ -99,7 +99,7 @@ pub fn admit(
 ) -> Walked
     ensures { λ r. ⌜ r ≡ walked (admitRuling price (now (list .entry)) (now (version .entry)) (now (store .entry)) «choice_room» «list_room» «block_room») (recordsOf (now (list .entry))) ⌝ }
 {
-    let first = inputs(price, list, version, store);
+    let first = first_checks(price, list, version, store);
     if let Ruling::Stop(refusal) = first {
         return Walked::Stopped(refusal);
     }

@@ -1,6 +1,7 @@
 // The call partition: of all choices for a list, the one whose list costs least, with its list and its stored block.
+ghost use mathlib.Core.Path.{_≡_};
 ghost use Rattle.area.specs.Area.{areas};
-ghost use Rattle.call_partition.specs.Partition.{Partitioned};
+ghost use Rattle.call_partition.specs.Partition.{partitionAnswer, partitionAreas};
 use format::Answer;
 use price::Price;
 use walk::Walked;
@@ -15,7 +16,8 @@ pub fn partition(
     list_area: &mut [u8],
     block_area: &mut [u8],
 ) -> Answer
-    ensures { λ r. ⌜ Partitioned price (now (list .entry)) (now (version .entry)) (now (store .entry)) (areas (now (choice .entry)) (now («list_area» .entry)) (now («block_area» .entry))) r (areas (now (choice .exit)) (now («list_area» .exit)) (now («block_area» .exit))) ⌝ }
+    ensures answered { λ r. ⌜ r ≡ partitionAnswer price (now (list .entry)) (now (version .entry)) (now (store .entry)) (areas (now (choice .entry)) (now («list_area» .entry)) (now («block_area» .entry))) ⌝ }
+    ensures areas_after { λ _. ⌜ areas (now (choice .exit)) (now («list_area» .exit)) (now («block_area» .exit)) ≡ partitionAreas price (now (list .entry)) (now (version .entry)) (now (store .entry)) (areas (now (choice .entry)) (now («list_area» .entry)) (now («block_area» .entry))) ⌝ }
 {
     let w = admit::admit(
         price,

@@ -1,6 +1,9 @@
 // The call pass: the published linear method, with the list and the stored block of the choice that it leaves.
+ghost use mathlib.Core.Path.{_≡_};
+ghost use Prim.Native.Nat.{_≤_};
+ghost use Rattle.format.specs.Refusal.{figuresIn};
 ghost use Rattle.area.specs.Area.{areas};
-ghost use Rattle.call_pass.specs.Pass.{PassMade};
+ghost use Rattle.call_pass.specs.Pass.{passAnswer, passAreas, looksMost};
 use format::Answer;
 use price::Price;
 use walk::Walked;
@@ -16,7 +19,9 @@ pub fn pass(
     list_area: &mut [u8],
     block_area: &mut [u8],
 ) -> Answer
-    ensures { λ r. ⌜ PassMade price (now (list .entry)) (now (version .entry)) (now (store .entry)) (areas (now (choice .entry)) (now («list_area» .entry)) (now («block_area» .entry))) r (areas (now (choice .exit)) (now («list_area» .exit)) (now («block_area» .exit))) ⌝ }
+    ensures answered { λ r. ⌜ r ≡ passAnswer price (now (list .entry)) (now (version .entry)) (now (store .entry)) (areas (now (choice .entry)) (now («list_area» .entry)) (now («block_area» .entry))) ⌝ }
+    ensures areas_after { λ _. ⌜ areas (now (choice .exit)) (now («list_area» .exit)) (now («block_area» .exit)) ≡ passAreas price (now (list .entry)) (now (version .entry)) (now (store .entry)) (areas (now (choice .entry)) (now («list_area» .entry)) (now («block_area» .entry))) ⌝ }
+    ensures few_looks { λ r. ⌜ figuresIn r .looks ≤ looksMost (now (list .entry)) ⌝ }
 {
     let w = admit::admit(
         price,

@@ -9,7 +9,7 @@ use format::Row;
 pub fn list_fits(list: &[u8]) -> bool
     ensures { λ r. ⌜ r ≡ listFits (now (list .entry)) ⌝ }
 {
-    if 49152 < list.len() {
+    if format::LIST_MOST < list.len() {
         return false;
     }
     list.len() % 12 == 0

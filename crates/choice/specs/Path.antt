@@ -8,8 +8,10 @@ use mathlib.Core.List.{List, [], _∷_}
 use lib.Dec.{leb}
 use Rattle.format.specs.declared.Record.{Record}
 use Rattle.format.specs.declared.Record.the-variants.{New, Match}
+use Rattle.format.specs.Limits.{recordsMost}
 use Rattle.price.specs.declared.Cost.{Cost}
 use Rattle.price.specs.declared.Rates.{Rates}
+use Rattle.price.specs.Price.{entryMost, storingMost}
 use Rattle.join.specs.declared.Open.{Open}
 use Rattle.join.specs.declared.Open.the-variants.{One}
 use Rattle.join.specs.Open.{follows}
@@ -83,9 +85,13 @@ added rates o r = cond (follows o r) 0 (entryOf rates r) + bytesIn rates r
 abbrev pub step : Rates → Open → Record → Bit → ℕ
 step rates o r b = added rates o (chosenRecord b r)
 
--- no step costs more: the dearest entry, 255 × 65,535, and 2³² stored bytes at 256 each
+-- no step costs more: an entry, and 2³² stored bytes
 abbrev pub stepMost : ℕ
-stepMost = 1099528339201
+stepMost = entryMost + storingMost
+
+-- nor do 4,096 steps
+abbrev pub pathMost : ℕ
+pathMost = recordsMost * stepMost
 
 -- what a record adds
 pub record Adds (rates : Rates) (o : Open) (r : Record) (d : Cost) : Type 0 where

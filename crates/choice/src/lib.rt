@@ -1,7 +1,7 @@
 // What a choice makes of a record, and what a record adds to the cost of a list.
 ghost use mathlib.Core.Path.{_≡_};
 ghost use Prim.Native.Nat.{_≤_};
-ghost use Rattle.price.specs.Price.{RatesFit};
+ghost use Rattle.price.specs.Price.{RatesFit, entryMost, storingMost};
 ghost use Rattle.choice.specs.Choice.{bitOf, chosenRecord};
 ghost use Rattle.choice.specs.Path.{entryOf, bytesIn, Adds};
 use format::Record;
@@ -22,7 +22,7 @@ pub fn chosen(record: Record, bit: u8) -> Record
 // What an entry costs, by its kind.
 fn entry_of(rates: Rates, record: Record) -> Cost
     requires { ⌜ RatesFit rates ⌝ }
-    ensures { λ r. ⌜ (r .0 ≡ entryOf rates «record») × (r .0 ≤ 16711425) ⌝ }
+    ensures { λ r. ⌜ (r .0 ≡ entryOf rates «record») × (r .0 ≤ entryMost) ⌝ }
 {
     match record {
         Record::New(_) => rates.fresh,
@@ -33,7 +33,7 @@ fn entry_of(rates: Rates, record: Record) -> Cost
 // What the stored bytes of an entry cost.
 fn bytes_in(rates: Rates, record: Record) -> Cost
     requires { ⌜ RatesFit rates ⌝ }
-    ensures { λ r. ⌜ (r .0 ≡ bytesIn rates «record») × (r .0 ≤ 1099511627776) ⌝ }
+    ensures { λ r. ⌜ (r .0 ≡ bytesIn rates «record») × (r .0 ≤ storingMost) ⌝ }
 {
     match record {
         Record::New(size) => price::storing(rates, size),

@@ -12,7 +12,7 @@ use Rattle.price.specs.declared.Price.{Price}
 use Rattle.price.specs.Price.{ratesOf}
 use Rattle.admit.specs.Admit.{admitRuling}
 use Rattle.writer.specs.Decide.{Finished}
-use Rattle.commit.specs.Commit.{choiceRuling, commitRuling, Committed}
+use Rattle.commit.specs.Commit.{choiceRuling, commitRuling, commitAnswer, commitList, commitBlock, Committed}
 
 module _ (price : Price) (list v st choice area block : List ℕ) where
   stopped : {x : Refusal} {r : Answer} → commitRuling price list v st choice (length area) (length block) ≡ Stop x → r ≡ Refused x → Committed price list v st choice area block r area block
@@ -29,3 +29,9 @@ module _ (price : Price) (list v st choice area block : List ℕ) where
     pub committed : {r : Answer} {area′ block′ : List ℕ} → choiceRuling list choice ≡ Fine → Finished (ratesOf price) list choice v 0 area block r area′ block′
         → Committed price list v st choice area block r area′ block′
     committed k done = record { answered = rw (h, k) (done .answered); list-after = rw (h, k) (done .area-after); block-after = rw (h, k) (done .block-after) }
+
+  -- a call that meets the clauses of the contract, as the laws speak of it
+  pub commit-made : {r : Answer} {area′ block′ : List ℕ}
+      → (r ≡ commitAnswer price list v st choice area block) × ((area′ ≡ commitList price list v st choice area block) × (block′ ≡ commitBlock price list v st choice area block))
+      → Committed price list v st choice area block r area′ block′
+  commit-made h = record { answered = h .0; list-after = h .1 .0; block-after = h .1 .1 }

@@ -2,7 +2,8 @@
 ghost use mathlib.Core.Path.{_≡_};
 ghost use Prim.Native.Nat.{_≤_};
 ghost use lib.ListN.{length};
-ghost use Rattle.commit.specs.Commit.{mayHave, choiceRuling, Committed};
+ghost use Rattle.format.specs.Limits.{listMost};
+ghost use Rattle.commit.specs.Commit.{mayHave, choiceRuling, commitAnswer, commitList, commitBlock};
 use format::Answer;
 use format::Fault;
 use format::Record;
@@ -27,7 +28,7 @@ fn may_have(record: Record, byte: u8) -> bool
 
 // Check 12: a byte for each record, no more and no fewer; then each a byte that its record may have.
 fn check_choice(list: &[u8], choice: &[u8]) -> Ruling
-    requires { ⌜ length (now list) ≤ 49152 ⌝ }
+    requires { ⌜ length (now list) ≤ listMost ⌝ }
     ensures { λ r. ⌜ r ≡ choiceRuling (now (list .entry)) (now (choice .entry)) ⌝ }
 {
     let n = list.len() / 12;
@@ -54,7 +55,9 @@ pub fn commit(
     list_area: &mut [u8],
     block_area: &mut [u8],
 ) -> Answer
-    ensures { λ r. ⌜ Committed price (now (list .entry)) (now (version .entry)) (now (store .entry)) (now (choice .entry)) (now («list_area» .entry)) (now («block_area» .entry)) r (now («list_area» .exit)) (now («block_area» .exit)) ⌝ }
+    ensures answered { λ r. ⌜ r ≡ commitAnswer price (now (list .entry)) (now (version .entry)) (now (store .entry)) (now (choice .entry)) (now («list_area» .entry)) (now («block_area» .entry)) ⌝ }
+    ensures list_after { λ _. ⌜ now («list_area» .exit) ≡ commitList price (now (list .entry)) (now (version .entry)) (now (store .entry)) (now (choice .entry)) (now («list_area» .entry)) (now («block_area» .entry)) ⌝ }
+    ensures block_after { λ _. ⌜ now («block_area» .exit) ≡ commitBlock price (now (list .entry)) (now (version .entry)) (now (store .entry)) (now (choice .entry)) (now («list_area» .entry)) (now («block_area» .entry)) ⌝ }
 {
     let w = admit::admit(
         price,

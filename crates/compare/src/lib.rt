@@ -105,7 +105,7 @@ pub fn compare<'a>(
     second_block: &'a [u8],
     store: &'a [u8],
 ) -> Answer
-    ensures { λ r. ⌜ r ≡ compared (now (first .entry)) (now (second .entry)) (now («first_block» .entry)) (now («second_block» .entry)) (now (store .entry)) ⌝ }
+    ensures answered { λ r. ⌜ r ≡ compared (now (first .entry)) (now (second .entry)) (now («first_block» .entry)) (now («second_block» .entry)) (now (store .entry)) ⌝ }
 {
     let v = show::accept(first, first_block, store);
     let Walked::Through(t) = v else {

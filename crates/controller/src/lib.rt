@@ -7,16 +7,17 @@ ghost use Rattle.measure.specs.Measure.{measured};
 ghost use Rattle.show.specs.Check.{checked};
 ghost use Rattle.rebuild.specs.Rebuild.{rebuildAnswer, rebuildArea};
 ghost use Rattle.compare.specs.Compare.{compared};
+ghost use Rattle.call_partition.specs.Partition.{partitionAnswer, partitionAreas};
+ghost use Rattle.call_pass.specs.Pass.{passAnswer, passAreas};
 ghost use Rattle.estimate.specs.Estimate.{estimateAnswer, estimateArea};
 ghost use Rattle.commit.specs.Commit.{commitAnswer, commitList, commitBlock};
 ghost use Rattle.answer.specs.Layout.{Answered, lent};
-ghost use Rattle.controller.specs.Calls.{PartitionGiven, PassGiven};
 use price::Price;
 
 // Measure.
 #[no_mangle]
 pub extern "C" fn measure(en: u32, em: u32, f: u32, list: &[u8], answer: &mut [u8]) -> u32
-    ensures { λ r. ⌜ Answered (measured (record { en = en; em = em; f = f }) (now (list .entry))) (now (answer .entry)) r (now (answer .exit)) ⌝ }
+    ensures answered { λ r. ⌜ Answered (measured (record { en = en; em = em; f = f }) (now (list .entry))) (now (answer .entry)) r (now (answer .exit)) ⌝ }
 {
     if answer.len() < 32 {
         return 9;
@@ -33,8 +34,8 @@ pub extern "C" fn rebuild<'a>(
     area: &mut [u8],
     answer: &mut [u8],
 ) -> u32
-    ensures { λ r. ⌜ Answered (rebuildAnswer (now (list .entry)) (now (block .entry)) (now (store .entry)) (now (area .entry))) (now (answer .entry)) r (now (answer .exit)) ⌝ }
-    ensures { λ _. ⌜ now (area .exit) ≡ lent (now (answer .entry)) (rebuildArea (now (list .entry)) (now (block .entry)) (now (store .entry)) (now (area .entry))) (now (area .entry)) ⌝ }
+    ensures answered { λ r. ⌜ Answered (rebuildAnswer (now (list .entry)) (now (block .entry)) (now (store .entry)) (now (area .entry))) (now (answer .entry)) r (now (answer .exit)) ⌝ }
+    ensures area_after { λ _. ⌜ now (area .exit) ≡ lent (now (answer .entry)) (rebuildArea (now (list .entry)) (now (block .entry)) (now (store .entry)) (now (area .entry))) (now (area .entry)) ⌝ }
 {
     if answer.len() < 32 {
         return 9;
@@ -56,7 +57,8 @@ pub extern "C" fn partition(
     block_area: &mut [u8],
     answer: &mut [u8],
 ) -> u32
-    ensures { λ r. ⌜ PartitionGiven (record { en = en; em = em; f = f }) (now (list .entry)) (now (version .entry)) (now (store .entry)) (areas (now (choice .entry)) (now («list_area» .entry)) (now («block_area» .entry))) (now (answer .entry)) r (areas (now (choice .exit)) (now («list_area» .exit)) (now («block_area» .exit))) (now (answer .exit)) ⌝ }
+    ensures answered { λ r. ⌜ Answered (partitionAnswer (record { en = en; em = em; f = f }) (now (list .entry)) (now (version .entry)) (now (store .entry)) (areas (now (choice .entry)) (now («list_area» .entry)) (now («block_area» .entry)))) (now (answer .entry)) r (now (answer .exit)) ⌝ }
+    ensures areas_after { λ _. ⌜ areas (now (choice .exit)) (now («list_area» .exit)) (now («block_area» .exit)) ≡ lent (now (answer .entry)) (partitionAreas (record { en = en; em = em; f = f }) (now (list .entry)) (now (version .entry)) (now (store .entry)) (areas (now (choice .entry)) (now («list_area» .entry)) (now («block_area» .entry)))) (areas (now (choice .entry)) (now («list_area» .entry)) (now («block_area» .entry))) ⌝ }
 {
     if answer.len() < 32 {
         return 9;
@@ -87,8 +89,8 @@ pub extern "C" fn estimate(
     choice: &mut [u8],
     answer: &mut [u8],
 ) -> u32
-    ensures { λ r. ⌜ Answered (estimateAnswer (record { en = en; em = em; f = f }) (now (list .entry)) (now (version .entry)) (now (store .entry)) (now (choice .entry))) (now (answer .entry)) r (now (answer .exit)) ⌝ }
-    ensures { λ _. ⌜ now (choice .exit) ≡ lent (now (answer .entry)) (estimateArea (record { en = en; em = em; f = f }) (now (list .entry)) (now (version .entry)) (now (store .entry)) (now (choice .entry))) (now (choice .entry)) ⌝ }
+    ensures answered { λ r. ⌜ Answered (estimateAnswer (record { en = en; em = em; f = f }) (now (list .entry)) (now (version .entry)) (now (store .entry)) (now (choice .entry))) (now (answer .entry)) r (now (answer .exit)) ⌝ }
+    ensures choice_after { λ _. ⌜ now (choice .exit) ≡ lent (now (answer .entry)) (estimateArea (record { en = en; em = em; f = f }) (now (list .entry)) (now (version .entry)) (now (store .entry)) (now (choice .entry))) (now (choice .entry)) ⌝ }
 {
     if answer.len() < 32 {
         return 9;
@@ -113,9 +115,9 @@ pub extern "C" fn commit(
     block_area: &mut [u8],
     answer: &mut [u8],
 ) -> u32
-    ensures { λ r. ⌜ Answered (commitAnswer (record { en = en; em = em; f = f }) (now (list .entry)) (now (version .entry)) (now (store .entry)) (now (choice .entry)) (now («list_area» .entry)) (now («block_area» .entry))) (now (answer .entry)) r (now (answer .exit)) ⌝ }
-    ensures { λ _. ⌜ now («list_area» .exit) ≡ lent (now (answer .entry)) (commitList (record { en = en; em = em; f = f }) (now (list .entry)) (now (version .entry)) (now (store .entry)) (now (choice .entry)) (now («list_area» .entry)) (now («block_area» .entry))) (now («list_area» .entry)) ⌝ }
-    ensures { λ _. ⌜ now («block_area» .exit) ≡ lent (now (answer .entry)) (commitBlock (record { en = en; em = em; f = f }) (now (list .entry)) (now (version .entry)) (now (store .entry)) (now (choice .entry)) (now («list_area» .entry)) (now («block_area» .entry))) (now («block_area» .entry)) ⌝ }
+    ensures answered { λ r. ⌜ Answered (commitAnswer (record { en = en; em = em; f = f }) (now (list .entry)) (now (version .entry)) (now (store .entry)) (now (choice .entry)) (now («list_area» .entry)) (now («block_area» .entry))) (now (answer .entry)) r (now (answer .exit)) ⌝ }
+    ensures list_after { λ _. ⌜ now («list_area» .exit) ≡ lent (now (answer .entry)) (commitList (record { en = en; em = em; f = f }) (now (list .entry)) (now (version .entry)) (now (store .entry)) (now (choice .entry)) (now («list_area» .entry)) (now («block_area» .entry))) (now («list_area» .entry)) ⌝ }
+    ensures block_after { λ _. ⌜ now («block_area» .exit) ≡ lent (now (answer .entry)) (commitBlock (record { en = en; em = em; f = f }) (now (list .entry)) (now (version .entry)) (now (store .entry)) (now (choice .entry)) (now («list_area» .entry)) (now («block_area» .entry))) (now («block_area» .entry)) ⌝ }
 {
     if answer.len() < 32 {
         return 9;
@@ -148,7 +150,8 @@ pub extern "C" fn pass(
     block_area: &mut [u8],
     answer: &mut [u8],
 ) -> u32
-    ensures { λ r. ⌜ PassGiven (record { en = en; em = em; f = f }) (now (list .entry)) (now (version .entry)) (now (store .entry)) (areas (now (choice .entry)) (now («list_area» .entry)) (now («block_area» .entry))) (now (answer .entry)) r (areas (now (choice .exit)) (now («list_area» .exit)) (now («block_area» .exit))) (now (answer .exit)) ⌝ }
+    ensures answered { λ r. ⌜ Answered (passAnswer (record { en = en; em = em; f = f }) (now (list .entry)) (now (version .entry)) (now (store .entry)) (areas (now (choice .entry)) (now («list_area» .entry)) (now («block_area» .entry)))) (now (answer .entry)) r (now (answer .exit)) ⌝ }
+    ensures areas_after { λ _. ⌜ areas (now (choice .exit)) (now («list_area» .exit)) (now («block_area» .exit)) ≡ lent (now (answer .entry)) (passAreas (record { en = en; em = em; f = f }) (now (list .entry)) (now (version .entry)) (now (store .entry)) (areas (now (choice .entry)) (now («list_area» .entry)) (now («block_area» .entry)))) (areas (now (choice .entry)) (now («list_area» .entry)) (now («block_area» .entry))) ⌝ }
 {
     if answer.len() < 32 {
         return 9;
@@ -170,7 +173,7 @@ pub extern "C" fn pass(
 // Check.
 #[no_mangle]
 pub extern "C" fn check(list: &[u8], block: &[u8], store: &[u8], k: u32, answer: &mut [u8]) -> u32
-    ensures { λ r. ⌜ Answered (checked (now (list .entry)) (now (block .entry)) (now (store .entry)) k) (now (answer .entry)) r (now (answer .exit)) ⌝ }
+    ensures answered { λ r. ⌜ Answered (checked (now (list .entry)) (now (block .entry)) (now (store .entry)) k) (now (answer .entry)) r (now (answer .exit)) ⌝ }
 {
     if answer.len() < 32 {
         return 9;
@@ -188,7 +191,7 @@ pub extern "C" fn compare<'a>(
     store: &'a [u8],
     answer: &mut [u8],
 ) -> u32
-    ensures { λ r. ⌜ Answered (compared (now (first .entry)) (now (second .entry)) (now («first_block» .entry)) (now («second_block» .entry)) (now (store .entry))) (now (answer .entry)) r (now (answer .exit)) ⌝ }
+    ensures answered { λ r. ⌜ Answered (compared (now (first .entry)) (now (second .entry)) (now («first_block» .entry)) (now («second_block» .entry)) (now (store .entry))) (now (answer .entry)) r (now (answer .exit)) ⌝ }
 {
     if answer.len() < 32 {
         return 9;

@@ -26,13 +26,13 @@ use Rattle.rebuild.specs.Rebuild.{Rebuilt}
 use Rattle.call_partition.specs.Partition.{Partitioned}
 use Rattle.linear.proofs.Theorems.{PassHolds, pass-holds}
 use Rattle.call_pass.specs.Pass.{passChoiceOf, passLooksOf}
-use Rattle.demand.specs.Demand.{Calls, writtenList, writtenBlock, Made, Room, Demand, DemandThree, Demonstrated}
+use Rattle.demand.specs.Demand.{Calls, writtenList, writtenBlock, Made, Room, Demand, DemandThree}
 use Rattle.demand.proofs.WrittenList.{whole-written, version-back, partition-accepts, least-again, list-again}
 
 accepts-of : {a : Answer} {x : Figures} → a ≡ Accepted x → Accepts a
 accepts-of e = rw e tt
 
-module _ (price : Price) (list v st : List ℕ) (x : Calls) (fine : findings price list v st ≡ Fine) (room : Room list v x) (made : Made price list v st x) where
+module _ (price : Price) (list v st : List ℕ) (x : Calls) (made : Made price list v st x) (fine : findings price list v st ≡ Fine) (room : Room list v x) where
   sound : Sound price list v st (length list / 12) (length list) (length v)
   sound = sound-of-fine price list v st (length list / 12) (length list) (length v) fine
 
@@ -124,6 +124,3 @@ block-there price list v st {before} d = block-within d in-version
     in-version fine =
         let s = sound-of-fine price list v st (length (before .choice)) (length (before .list)) (length (before .block)) fine in
         omega (arith, whole-written s (leastOf price list) (least-fits (ratesOf price) (recordsOf list)))
-
-pub demonstrated : {price : Price} {list v st : List ℕ} {x : Calls} → Made price list v st x → Demonstrated price list v st x
-demonstrated {price} {list} {v} {st} {x} made = record { made = made; holds = λ fine room. demand-three price list v st x fine room made }

@@ -41,7 +41,7 @@ module _ {price : Price} {list v st : List ℕ} {c a b : ℕ} (s : Sound price l
   whole-written = whole-agrees st (listOf (recordsOf list) d) v (well-formed-written .agrees)
 
   count-written : length (listOf (recordsOf list) d) ≤ 4096
-  count-written = omega (arith, length-list (recordsOf list) d, s .inputs .counted .count-most)
+  count-written = omega (arith, length-list (recordsOf list) d, s .fits .counted .count-most)
 
   readable-written : Readable (listOf (recordsOf list) d) (blockOf (listOf (recordsOf list) d) v) st
   readable-written =
@@ -50,7 +50,7 @@ module _ {price : Price} {list v st : List ℕ} {c a b : ℕ} (s : Sound price l
         sized = w .sized;
         apart = w .apart;
         inside = inside-agrees st (listOf (recordsOf list) d) v (w .agrees);
-        whole-most = omega (arith, whole-written, s .inputs .version-most);
+        whole-most = omega (arith, whole-written, s .fits .version-most);
         block-fits = length-block (listOf (recordsOf list) d) v (omega (arith, whole-written));
       }
 
@@ -58,8 +58,8 @@ module _ {price : Price} {list v st : List ℕ} {c a b : ℕ} (s : Sound price l
   pub measured-written : measured price (encode (listOf (recordsOf list) d)) ≡ Accepted (measures (ratesOf price) (listOf (recordsOf list) d))
   measured-written =
       let w = well-formed-written in
-      measured-fine price (encode (listOf (recordsOf list) d)) (s .inputs .price-fits) (fits-encode (listOf (recordsOf list) d) count-written)
-      (walk-sizes (listOf (recordsOf list) d) (w .sized) (w .apart) (omega (arith, whole-written, s .inputs .version-most)))
+      measured-fine price (encode (listOf (recordsOf list) d)) (s .fits .price-fits) (fits-encode (listOf (recordsOf list) d) count-written)
+      (walk-sizes (listOf (recordsOf list) d) (w .sized) (w .apart) (omega (arith, whole-written, s .fits .version-most)))
       ∙ ap (λ (l : List Record). Accepted (measures (ratesOf price) l)) (records-encode (listOf (recordsOf list) d))
 
   -- rebuilt with its stored block, it is accepted and gives the version
@@ -67,7 +67,7 @@ module _ {price : Price} {list v st : List ℕ} {c a b : ℕ} (s : Sound price l
   rebuilt-written = rebuilt-block st (listOf (recordsOf list) d) v (well-formed-written .agrees)
 
   pub inputs-accepted : inputsRuling (encode (listOf (recordsOf list) d)) (blockOf (listOf (recordsOf list) d) v) st ≡ Fine
-  inputs-accepted = inputs-written (listOf (recordsOf list) d) (blockOf (listOf (recordsOf list) d) v) st count-written (s .inputs .store-most) readable-written
+  inputs-accepted = inputs-written (listOf (recordsOf list) d) (blockOf (listOf (recordsOf list) d) v) st count-written (s .fits .store-most) readable-written
 
   rebuild-accepts : (out : List ℕ) → length v ≤ length out → rebuildRuling (encode (listOf (recordsOf list) d)) (blockOf (listOf (recordsOf list) d) v) st out ≡ Fine
   rebuild-accepts out room =
@@ -87,7 +87,7 @@ module _ {price : Price} {list v st : List ℕ} {c a b : ℕ} (s : Sound price l
   -- handed to partition again, it is accepted
   pub partition-accepts : (x : Areas) → LongEnough (encode (listOf (recordsOf list) d)) v x → partitionRuling price (encode (listOf (recordsOf list) d)) v st x ≡ Fine
   partition-accepts x room =
-      fine-of-written price (listOf (recordsOf list) d) v st (length (x .choice)) (length (x .list)) (length (x .block)) (s .inputs .price-fits) (s .inputs .lengths-fit) count-written room well-formed-written
+      fine-of-written price (listOf (recordsOf list) d) v st (length (x .choice)) (length (x .list)) (length (x .block)) (s .fits .price-fits) (s .fits .lengths-fit) count-written room well-formed-written
 
 -- partition's list, partitioned again
 pub least-again : (price : Price) (list : List ℕ) → let l = listOf (recordsOf list) (leastOf price list) in leastOf price (encode l) ≡ keepAll l

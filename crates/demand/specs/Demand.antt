@@ -43,11 +43,17 @@ pub record Calls : Type 0 where
   pub passed : Call
 
 -- the list and the stored block that a call wrote: as many bytes of its areas as its answer says
+abbrev pub listWritten : Answer → List ℕ → List ℕ
+listWritten r area = take (12 * figuresIn r .entries) area
+
+abbrev pub blockWritten : Answer → List ℕ → List ℕ
+blockWritten r area = take (figuresIn r .stored) area
+
 abbrev pub writtenList : Call → List ℕ
-writtenList x = take (12 * figuresIn (x .answer) .entries) (x .after .list)
+writtenList x = listWritten (x .answer) (x .after .list)
 
 abbrev pub writtenBlock : Call → List ℕ
-writtenBlock x = take (figuresIn (x .answer) .stored) (x .after .block)
+writtenBlock x = blockWritten (x .answer) (x .after .block)
 
 -- each of the four is that call: its contract holds of its answer and its areas
 pub record Made (price : Price) (list v st : List ℕ) (x : Calls) : Type 0 where
@@ -96,9 +102,13 @@ pub record Demand (price : Price) (list v : List ℕ) (x : Calls) : Type 0 where
   -- "It counts at most 2n - 1 looks for n records, none for n = 0"; n "counts the records after joining" (S-4)
   pub few-looks : figuresIn (x .passed .answer) .looks ≤ 2 * length (tidy (recordsOf list)) - 1
 
--- demand 3: where nothing is found in price, list, version and store, it holds of any four calls in areas long enough for them
+-- it holds of four calls where nothing is found in price, list, version and store, and the areas are long enough for them
+abbrev pub Holds : Price → List ℕ → List ℕ → List ℕ → Calls → Type 0
+Holds price list v st x = findings price list v st ≡ Fine → Room list v x → Demand price list v x
+
+-- demand 3: it holds of any four that are these calls
 abbrev pub DemandThree : Type 0
-DemandThree = (price : Price) (list v st : List ℕ) (x : Calls) → findings price list v st ≡ Fine → Room list v x → Made price list v st x → Demand price list v x
+DemandThree = (price : Price) (list v st : List ℕ) (x : Calls) → Made price list v st x → Holds price list v st x
 
 -- ---- the calls as one function makes them
 
@@ -111,8 +121,3 @@ callsOf r first first′ out out′ again again′ passed passed′ =
       again = record { before = again; answer = r .again; after = again′ };
       passed = record { before = passed; answer = r .passed; after = passed′ };
     }
-
--- each is the call that it should be, and demand 3 holds of them
-pub record Demonstrated (price : Price) (list v st : List ℕ) (x : Calls) : Type 0 where
-  pub made : Made price list v st x
-  pub holds : findings price list v st ≡ Fine → Room list v x → Demand price list v x

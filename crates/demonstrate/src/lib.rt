@@ -3,36 +3,10 @@
 ghost use Rattle.area.specs.Area.{areas};
 ghost use Rattle.rebuild.specs.Rebuild.{Rebuilt};
 ghost use Rattle.call_partition.specs.Partition.{Partitioned};
-ghost use Rattle.demand.specs.Demand.{callsOf, Demonstrated};
+ghost use Rattle.call_pass.specs.Pass.{PassMade};
+ghost use Rattle.demand.specs.Demand.{listWritten, blockWritten, callsOf, Holds};
 use demand::Answers;
-use format::Answer;
 use price::Price;
-
-// What rebuild and partition answered.
-pub struct Both {
-    pub rebuilt: Answer,
-    pub again: Answer,
-}
-
-// Rebuild and partition, each given the list that was written, and what else it needs.
-fn hand_on<'a>(
-    price: Price,
-    list: &[u8],
-    block: &'a [u8],
-    version: &'a [u8],
-    store: &'a [u8],
-    out: &mut [u8],
-    choice2: &mut [u8],
-    list2: &mut [u8],
-    block2: &mut [u8],
-) -> Both
-    ensures { λ r. ⌜ Rebuilt (now (list .entry)) (now (block .entry)) (now (store .entry)) (now (out .entry)) (r .rebuilt) (now (out .exit)) ⌝ }
-    ensures { λ r. ⌜ Partitioned price (now (list .entry)) (now (version .entry)) (now (store .entry)) (areas (now (choice2 .entry)) (now (list2 .entry)) (now (block2 .entry))) (r .again) (areas (now (choice2 .exit)) (now (list2 .exit)) (now (block2 .exit))) ⌝ }
-{
-    let rebuilt = rebuild::rebuild(list, block, store, out);
-    let again = call_partition::partition(price, list, version, store, choice2, list2, block2);
-    Both { rebuilt, again }
-}
 
 // The four calls, one after the other: areas 1 are lent to the first partition, 2 to the second, 3 to the pass. What a refused partition wrote
 // is an empty list with an empty block.
@@ -52,13 +26,22 @@ pub fn demonstrate<'a>(
     list3: &mut [u8],
     block3: &mut [u8],
 ) -> Answers
-    ensures { λ r. ⌜ Demonstrated price (now (list .entry)) (now (version .entry)) (now (store .entry)) (callsOf r (areas (now (choice1 .entry)) (now (list1 .entry)) (now (block1 .entry))) (areas (now (choice1 .exit)) (now (list1 .exit)) (now (block1 .exit))) (now (out .entry)) (now (out .exit)) (areas (now (choice2 .entry)) (now (list2 .entry)) (now (block2 .entry))) (areas (now (choice2 .exit)) (now (list2 .exit)) (now (block2 .exit))) (areas (now (choice3 .entry)) (now (list3 .entry)) (now (block3 .entry))) (areas (now (choice3 .exit)) (now (list3 .exit)) (now (block3 .exit)))) ⌝ }
+    ensures first { λ r. ⌜ Partitioned price (now (list .entry)) (now (version .entry)) (now (store .entry)) (areas (now (choice1 .entry)) (now (list1 .entry)) (now (block1 .entry))) (r .first) (areas (now (choice1 .exit)) (now (list1 .exit)) (now (block1 .exit))) ⌝ }
+    ensures rebuilt { λ r. ⌜ Rebuilt (listWritten (r .first) (now (list1 .exit))) (blockWritten (r .first) (now (block1 .exit))) (now (store .entry)) (now (out .entry)) (r .rebuilt) (now (out .exit)) ⌝ }
+    ensures again { λ r. ⌜ Partitioned price (listWritten (r .first) (now (list1 .exit))) (now (version .entry)) (now (store .entry)) (areas (now (choice2 .entry)) (now (list2 .entry)) (now (block2 .entry))) (r .again) (areas (now (choice2 .exit)) (now (list2 .exit)) (now (block2 .exit))) ⌝ }
+    ensures passed { λ r. ⌜ PassMade price (now (list .entry)) (now (version .entry)) (now (store .entry)) (areas (now (choice3 .entry)) (now (list3 .entry)) (now (block3 .entry))) (r .passed) (areas (now (choice3 .exit)) (now (list3 .exit)) (now (block3 .exit))) ⌝ }
+    ensures holds { λ r. ⌜
+      Holds price (now (list .entry)) (now (version .entry)) (now (store .entry))
+      (callsOf r (areas (now (choice1 .entry)) (now (list1 .entry)) (now (block1 .entry))) (areas (now (choice1 .exit)) (now (list1 .exit)) (now (block1 .exit)))
+      (now (out .entry)) (now (out .exit))
+      (areas (now (choice2 .entry)) (now (list2 .entry)) (now (block2 .entry))) (areas (now (choice2 .exit)) (now (list2 .exit)) (now (block2 .exit)))
+      (areas (now (choice3 .entry)) (now (list3 .entry)) (now (block3 .entry))) (areas (now (choice3 .exit)) (now (list3 .exit)) (now (block3 .exit)))) ⌝ }
 {
     let first = call_partition::partition(price, list, version, store, choice1, list1, block1);
     let figures = format::figures_of(first);
     let n = 12 * format::index(figures.entries);
     let m = format::index(figures.stored);
-    let both = hand_on(
+    let both = handed_on::hand_on(
         price,
         &list1[0..n],
         &block1[0..m],

@@ -17,7 +17,7 @@ use Rattle.writer.specs.Write.{listIn}
 use Rattle.writer.proofs.Deciding.{list-over}
 use Rattle.estimate.specs.declared.Counts.{Counts}
 use Rattle.estimate.specs.Count.{CountsOf}
-use Rattle.estimate.specs.Estimate.{estimateRuling, Estimated}
+use Rattle.estimate.specs.Estimate.{estimateRuling, estimateAnswer, estimateArea, Estimated}
 
 module _ (price : Price) (list v st choice : List ℕ) where
   pub stopped : {x : Refusal} {r : Answer} → estimateRuling price list v st choice ≡ Stop x → r ≡ Refused x → Estimated price list v st choice r choice
@@ -28,3 +28,8 @@ module _ (price : Price) (list v st choice : List ℕ) where
   estimated {after} {cost} {n} fine least counts =
       let listed : listIn list after ≡ listOf (recordsOf list) (leastOf price list) = list-over list choice after (leastOf price list) (least-fits (ratesOf price) (recordsOf list)) (least .area) in
       record { answered = rw (fine, least .cost-is, counts .entries-are, counts .stored-are, listed); area-after = rw fine (least .area) }
+
+  -- a call that meets the clauses of the contract, as the laws speak of it
+  pub estimate-made : {r : Answer} {after : List ℕ} → (r ≡ estimateAnswer price list v st choice) × (after ≡ estimateArea price list v st choice)
+      → Estimated price list v st choice r after
+  estimate-made h = record { answered = h .0; area-after = h .1 }

@@ -7,7 +7,7 @@ ghost use mathlib.Core.Bool.{cond};
 ghost use mathlib.Core.List.{[], _∷_};
 ghost use Rattle.format.specs.Meaning.{stored};
 ghost use Rattle.join.specs.Open.{follows};
-ghost use Rattle.estimate.specs.Estimate.{Estimated};
+ghost use Rattle.estimate.specs.Estimate.{estimateAnswer, estimateArea};
 ghost use Rattle.estimate.specs.Count.{CountReady, CountsOf};
 use format::Answer;
 use format::Figures;
@@ -70,7 +70,8 @@ pub fn estimate(
     store: &[u8],
     choice: &mut [u8],
 ) -> Answer
-    ensures { λ r. ⌜ Estimated price (now (list .entry)) (now (version .entry)) (now (store .entry)) (now (choice .entry)) r (now (choice .exit)) ⌝ }
+    ensures answered { λ r. ⌜ r ≡ estimateAnswer price (now (list .entry)) (now (version .entry)) (now (store .entry)) (now (choice .entry)) ⌝ }
+    ensures choice_after { λ _. ⌜ now (choice .exit) ≡ estimateArea price (now (list .entry)) (now (version .entry)) (now (store .entry)) (now (choice .entry)) ⌝ }
 {
     let w = admit::admit(
         price,

@@ -10,6 +10,10 @@ versionMost = 16777216
 abbrev pub storeMost : ℕ
 storeMost = 268435456
 
+-- the most records of a list
+abbrev pub recordsMost : ℕ
+recordsMost = 4096
+
 -- the longest list: 4,096 records of 12 bytes
 abbrev pub listMost : ℕ
 listMost = 49152

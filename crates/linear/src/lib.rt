@@ -5,6 +5,7 @@
 ghost use mathlib.Core.Path.{_≡_};
 ghost use Prim.Native.Nat.{_+_, _*_, _≤_, _<_};
 ghost use lib.ListN.{length};
+ghost use Rattle.format.specs.Limits.{versionMost, listMost};
 ghost use Rattle.format.specs.Record.{rowAt, recordOf, recordsOf, recordsFrom};
 ghost use Rattle.format.specs.Meaning.{whole};
 ghost use Rattle.join.specs.Join.{joinsFirst, tidy};
@@ -47,7 +48,7 @@ fn joins_next(list: &[u8], n: usize, i: usize) -> bool
 // A list before the pass, each run of records that join as one: the front mark at place 0, the records in the last places before the rear mark, p at
 // the first of them.
 fn load(list: &[u8]) -> Machine
-    requires { ⌜ (length (now list) ≤ 49152) × (whole (recordsOf (now list)) ≤ 16777216) ⌝ }
+    requires { ⌜ (length (now list) ≤ listMost) × (whole (recordsOf (now list)) ≤ versionMost) ⌝ }
     ensures { λ r. ⌜ Loaded r (items (tidy (recordsOf (now (list .entry))))) ⌝ }
 {
     let n = list.len() / 12;

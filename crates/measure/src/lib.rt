@@ -10,7 +10,7 @@ use walk::Walked;
 
 // Measure: entries, stored bytes, whole length and cost of a list.
 pub fn measure(price: Price, list: &[u8]) -> Answer
-    ensures { λ r. ⌜ r ≡ measured price (now (list .entry)) ⌝ }
+    ensures answered { λ r. ⌜ r ≡ measured price (now (list .entry)) ⌝ }
 {
     if !price::in_range(price) {
         return format::refused(Fault::Price);

@@ -8,7 +8,7 @@ use lib.Dec.{leb}
 use lib.ListN.{length}
 use Rattle.format.specs.declared.Record.{Record}
 use Rattle.format.specs.declared.Record.the-variants.{New, Match}
-use Rattle.format.specs.Limits.{listMost}
+use Rattle.format.specs.Limits.{recordsMost, listMost}
 use Rattle.format.specs.Record.{recordsOf}
 use Rattle.format.specs.Meaning.{stored}
 use Rattle.price.specs.declared.Cost.{Cost}
@@ -48,16 +48,23 @@ indexBytes k l = k .en * news l + k .em * matches l
 abbrev pub cost : Rates → List Record → ℕ
 cost r l = r .fresh .0 * news l + r .kept .0 * matches l + r .byte .0 * stored l
 
+-- no entry costs more, 255 × 65,535, and no 2³² stored bytes, at 256 each
+abbrev pub entryMost : ℕ
+entryMost = 16711425
+
+abbrev pub storingMost : ℕ
+storingMost = 1099511627776
+
 -- rates at which the cost of 4,096 records fits 64 bits
 pub record RatesFit (r : Rates) : Type 0 where
-  pub fresh-most : r .fresh .0 ≤ 16711425
-  pub kept-most : r .kept .0 ≤ 16711425
+  pub fresh-most : r .fresh .0 ≤ entryMost
+  pub kept-most : r .kept .0 ≤ entryMost
   pub byte-most : r .byte .0 ≤ 256
 
 -- what n stored bytes cost, where n is below 2³²
 pub record Storing (r : Rates) (n : ℕ) (d : Cost) : Type 0 where
   pub is : d .0 ≡ r .byte .0 * n
-  pub most : d .0 < 1099511627776
+  pub most : d .0 < storingMost
 
 -- a count of the new entries of a list
 pub record Tallied (list : List ℕ) (r : ℕ) : Type 0 where
@@ -73,5 +80,5 @@ pub record Countable (r : Rates) (list : List ℕ) (s : ℕ) : Type 0 where
 -- what pricing counts asks: entries within the limit, of which some are new
 pub record Counted (r : Rates) (entries fresh : ℕ) : Type 0 where
   pub rates-fit : RatesFit r
-  pub entries-most : entries ≤ 4096
+  pub entries-most : entries ≤ recordsMost
   pub fresh-most : fresh ≤ entries

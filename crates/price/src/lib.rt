@@ -6,6 +6,7 @@ ghost use mathlib.Core.Path.{_≡_};
 ghost use Prim.Native.Nat.{_+_, _*_, _-_, _≤_, _<_};
 ghost use mathlib.Core.List.{[], _∷_};
 ghost use lib.ListN.{length};
+ghost use Rattle.format.specs.Limits.{listMost};
 ghost use Rattle.format.specs.Record.{recordsOf};
 ghost use Rattle.price.specs.Price.{priceFits, ratesOf, news, cost, RatesFit, Storing, Tallied, Countable, Counted};
 use format::Record;
@@ -101,7 +102,7 @@ fn one_if_new(record: Record) -> u64
 
 // The new entries of a list.
 fn tally(list: &[u8]) -> u64
-    requires { ⌜ length (now list) ≤ 49152 ⌝ }
+    requires { ⌜ length (now list) ≤ listMost ⌝ }
     ensures { λ r. ⌜ Tallied (now (list .entry)) r ⌝ }
 {
     let n = list.len() / 12;

@@ -1,6 +1,6 @@
 // The call rebuild: the version that a list, its stored block and the store stand for.
 ghost use mathlib.Core.Path.{_≡_};
-ghost use Rattle.rebuild.specs.Rebuild.{Rebuilt, Ready, filled};
+ghost use Rattle.rebuild.specs.Rebuild.{rebuildAnswer, rebuildArea, Ready, filled};
 use format::Answer;
 use format::Fault;
 use walk::Walked;
@@ -26,7 +26,8 @@ fn fill<'a>(list: &[u8], block: &'a [u8], store: &'a [u8], area: &mut [u8])
 
 // Rebuild: the version's bytes, from the list, its stored block and the store.
 pub fn rebuild<'a>(list: &[u8], block: &'a [u8], store: &'a [u8], area: &mut [u8]) -> Answer
-    ensures { λ r. ⌜ Rebuilt (now (list .entry)) (now (block .entry)) (now (store .entry)) (now (area .entry)) r (now (area .exit)) ⌝ }
+    ensures answered { λ r. ⌜ r ≡ rebuildAnswer (now (list .entry)) (now (block .entry)) (now (store .entry)) (now (area .entry)) ⌝ }
+    ensures area_after { λ _. ⌜ now (area .exit) ≡ rebuildArea (now (list .entry)) (now (block .entry)) (now (store .entry)) (now (area .entry)) ⌝ }
 {
     let w = show::accept(list, block, store);
     let Walked::Through(t) = w else {

@@ -4,6 +4,7 @@
 // Not here: the list that the looks go over, and what an outcome does to it.
 ghost use mathlib.Core.Path.{_≡_};
 ghost use Prim.Native.Nat.{_+_, _≤_};
+ghost use Rattle.format.specs.Limits.{versionMost};
 ghost use Rattle.price.specs.Price.{RatesFit};
 ghost use Rattle.rules.specs.Rules.{Item, new, match, testsOf, outcomeAt, cellItem};
 use price::Cost;
@@ -31,7 +32,7 @@ pub struct Cell {
 
 // Rules 1, 2 and 5 for a match of `size` bytes that stands after a new record of `before` bytes.
 fn after_new(rates: Rates, before: u32, size: u32, after: Cell) -> Outcome
-    requires { ⌜ (RatesFit rates) × (before + size + after .size ≤ 16777216) ⌝ }
+    requires { ⌜ (RatesFit rates) × (before + size + after .size ≤ versionMost) ⌝ }
     ensures { λ r. ⌜ ((second : Item) → r ≡ outcomeAt (testsOf rates) (new before) (match size) (cellItem after) second) ⌝ }
 {
     let bytes = price::storing(rates, size);
@@ -50,7 +51,7 @@ fn after_new(rates: Rates, before: u32, size: u32, after: Cell) -> Outcome
 
 // The first of the five rules that applies to p, with the one before it, the one after it and the second after it.
 pub fn outcome_at(rates: Rates, before: Cell, p: Cell, after: Cell, second: Cell) -> Outcome
-    requires { ⌜ (RatesFit rates) × (before .size + p .size + after .size ≤ 16777216) ⌝ }
+    requires { ⌜ (RatesFit rates) × (before .size + p .size + after .size ≤ versionMost) ⌝ }
     ensures { λ r. ⌜ r ≡ outcomeAt (testsOf rates) (cellItem before) (cellItem p) (cellItem after) (cellItem second) ⌝ }
 {
     if p.kind != 1 {

@@ -5,6 +5,7 @@ ghost use mathlib.Core.Path.{_≡_};
 ghost use Prim.Native.Nat.{_+_, _≤_, _<_};
 ghost use mathlib.Core.List.{[], _∷_};
 ghost use lib.ListN.{length, take};
+ghost use Rattle.format.specs.Limits.{versionMost};
 ghost use Rattle.format.specs.Meaning.{stored, partOf};
 ghost use Rattle.format.specs.Record.{recordsOf};
 ghost use Rattle.walk.specs.Walked.{walked};
@@ -20,7 +21,7 @@ use walk::Walked;
 pub fn accept(list: &[u8], block: &[u8], store: &[u8]) -> Walked
     ensures { λ r. ⌜ r ≡ walked (inputsRuling (now (list .entry)) (now (block .entry)) (now (store .entry))) (recordsOf (now (list .entry))) ⌝ }
 {
-    if 268435456 < store.len() {
+    if format::STORE_MOST < store.len() {
         return walk::stopped(Fault::TooLong, 0);
     }
     if !checks::list_fits(list) {
@@ -52,7 +53,7 @@ fn accept_place(list: &[u8], block: &[u8], store: &[u8], k: u32) -> Walked
 
 // Check: accepted where list, block and store have no fault and there is a record k.
 pub fn check(list: &[u8], block: &[u8], store: &[u8], k: u32) -> Answer
-    ensures { λ r. ⌜ r ≡ checked (now (list .entry)) (now (block .entry)) (now (store .entry)) k ⌝ }
+    ensures answered { λ r. ⌜ r ≡ checked (now (list .entry)) (now (block .entry)) (now (store .entry)) k ⌝ }
 {
     let w = accept_place(list, block, store, k);
     let Walked::Through(_totals) = w else {
@@ -92,7 +93,7 @@ pub fn stored_after(record: Record, before: usize) -> usize
 
 // The stored bytes before record k.
 fn stored_before(list: &[u8], k: usize) -> usize
-    requires { ⌜ (k ≤ length (recordsOf (now list))) × (stored (recordsOf (now list)) ≤ 16777216) ⌝ }
+    requires { ⌜ (k ≤ length (recordsOf (now list))) × (stored (recordsOf (now list)) ≤ versionMost) ⌝ }
     ensures { λ r. ⌜ r ≡ stored (take k (recordsOf (now (list .entry)))) ⌝ }
 {
     let mut sum = 0;
@@ -107,7 +108,7 @@ fn stored_before(list: &[u8], k: usize) -> usize
 
 // Show: the part of the stored block, or of the store, that record k stands for; the block's first 0 bytes where check refuses.
 pub fn show<'a>(list: &[u8], block: &'a [u8], store: &'a [u8], k: u32) -> &'a [u8]
-    ensures { λ r. ⌜ whereOf r ≡ shown (now (list .entry)) (block .entry) (store .entry) k ⌝ }
+    ensures part_lent { λ r. ⌜ whereOf r ≡ shown (now (list .entry)) (block .entry) (store .entry) k ⌝ }
 {
     let w = accept_place(list, block, store, k);
     let Walked::Through(_totals) = w else {

@@ -17,7 +17,7 @@ pub fn estimate_and_commit(
     list_area: &mut [u8],
     block_area: &mut [u8],
 ) -> TwoAnswers
-    ensures { λ r. ⌜ TwoCalls price (now (list .entry)) (now (version .entry)) (now (store .entry)) (areas (now (choice .entry)) (now («list_area» .entry)) (now («block_area» .entry))) r (areas (now (choice .exit)) (now («list_area» .exit)) (now («block_area» .exit))) ⌝ }
+    ensures two_calls { λ r. ⌜ TwoCalls price (now (list .entry)) (now (version .entry)) (now (store .entry)) (areas (now (choice .entry)) (now («list_area» .entry)) (now («block_area» .entry))) r (areas (now (choice .exit)) (now («list_area» .exit)) (now («block_area» .exit))) ⌝ }
 {
     let n = list.len() / 12;
     if !admit::areas_fit(list, version, n, list_area.len(), block_area.len()) {

@@ -7,6 +7,7 @@ use mathlib.Core.List.{List, [], _∷_, _++_}
 use lib.Dec.{eqb}
 use lib.ListN.{length, drop}
 use Rattle.format.specs.declared.Record.{Record}
+use Rattle.format.specs.Limits.{recordsMost}
 use Rattle.format.specs.Record.{rowAt, recordOf, recordsOf, recordsFrom}
 use Rattle.price.specs.declared.Rates.{Rates}
 use Rattle.price.specs.Price.{RatesFit}
@@ -72,7 +73,7 @@ hintsOf rates g rs = hints after (step rates) g rs
 -- what the sweeps ask: n records, and a byte for each
 pub record Room (rates : Rates) (list : List ℕ) (n : ℕ) (choice : List ℕ) : Type 0 where
   pub rates-fit : RatesFit rates
-  pub n-most : n ≤ 4096
+  pub n-most : n ≤ recordsMost
   pub in-list : 12 * n ≤ length list
   pub in-choice : n ≤ length choice
 

@@ -8,6 +8,7 @@ ghost use Prim.Native.Nat.{_*_, _/_, _≤_};
 ghost use lib.ListN.{length};
 ghost use Rattle.price.specs.Price.{RatesFit};
 ghost use Rattle.choice.specs.Choice.{store};
+ghost use Rattle.choice.specs.Path.{pathMost};
 ghost use Rattle.sweep.specs.Sweep.{Better, leftBy, Turned, beforeAt, Room, Back, nextBit, forwards, LeastIn};
 use format::Record;
 use join::Open;
@@ -30,7 +31,7 @@ pub struct Turn {
 // The better way with a record after the one before it: `kept` and `stored` are the least costs of what follows it, after it is kept and after it is
 // stored. A new record is stored, and a held match is kept, whatever they come to. By the record's kind first, as that asks least of the processor.
 fn better(rates: Rates, before: Open, record: Record, kept: Cost, stored: Cost) -> Way
-    requires { ⌜ (RatesFit rates) × (kept .0 ≤ 4503668077367296) × (stored .0 ≤ 4503668077367296) ⌝ }
+    requires { ⌜ (RatesFit rates) × (kept .0 ≤ pathMost) × (stored .0 ≤ pathMost) ⌝ }
     ensures { λ w. ⌜ Better rates before «record» (kept .0) (stored .0) w ⌝ }
 {
     match record {
@@ -67,7 +68,7 @@ fn stored_before(before: Open) -> Open
 
 // One record from the rear, after the one before it, kept or stored.
 fn weigh(rates: Rates, before: Open, record: Record, kept: Cost, stored: Cost) -> Turn
-    requires { ⌜ (RatesFit rates) × (kept .0 ≤ 4503668077367296) × (stored .0 ≤ 4503668077367296) ⌝ }
+    requires { ⌜ (RatesFit rates) × (kept .0 ≤ pathMost) × (stored .0 ≤ pathMost) ⌝ }
     ensures { λ t. ⌜ Turned rates before «record» (kept .0) (stored .0) t ⌝ }
 {
     let k = better(rates, before, record, kept, stored);

@@ -5,6 +5,7 @@ ghost use mathlib.Core.Path.{_≡_};
 ghost use mathlib.Core.Bool.{false, _&&_};
 ghost use Prim.Native.Nat.{_+_, _≤_, _<_};
 ghost use lib.ListN.{length, take, drop};
+ghost use Rattle.format.specs.Limits.{versionMost, recordsMost};
 ghost use Rattle.format.specs.Refusal.{refuse};
 ghost use Rattle.format.specs.Record.{recordsOf, isNew};
 ghost use Rattle.words.specs.Same.{sameBytes};
@@ -14,6 +15,9 @@ use format::Fault;
 use format::Refusal;
 use format::Row;
 use format::Ruling;
+
+// What the sizes may come to where a call has no version.
+const LIMIT: u32 = format::VERSION_MOST as u32;
 
 // What a call has beside the list: nothing; the store; version and store.
 pub enum Scope {
@@ -51,12 +55,12 @@ pub fn stop(fault: Fault, place: u32) -> Ruling
 
 // What the sizes may come to: the version's length, or the greatest length of one.
 fn limit_of(scope: Scope, version: &[u8]) -> u32
-    requires { ⌜ length (now version) ≤ 16777216 ⌝ }
+    requires { ⌜ length (now version) ≤ versionMost ⌝ }
     ensures { λ r. ⌜ r ≡ limitOf scope (now (version .entry)) ⌝ }
 {
     match scope {
-        Scope::Sizes => 16777216,
-        Scope::Store => 16777216,
+        Scope::Sizes => LIMIT,
+        Scope::Store => LIMIT,
         Scope::Version => version.len() as u32,
     }
 }
@@ -139,7 +143,7 @@ fn judge(row: Row, seen: Seen, scope: Scope, limit: u32, version: &[u8], store: 
 
 // What is seen after a record.
 fn step(seen: Seen, row: Row) -> Seen
-    requires { ⌜ (seen .place < 4096) × (seen .offset + row .size ≤ 16777216) × (seen .stored ≤ seen .offset) ⌝ }
+    requires { ⌜ (seen .place < recordsMost) × (seen .offset + row .size ≤ versionMost) × (seen .stored ≤ seen .offset) ⌝ }
     ensures { λ r. ⌜ r ≡ next seen row ⌝ }
 {
     let place = seen.place + 1;

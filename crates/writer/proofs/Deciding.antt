@@ -27,7 +27,12 @@ use Rattle.choice.specs.Choice.{Bit, bitBytes, bitsOf, IsChoice, listOf}
 use Rattle.choice.proofs.Lists.{length-choice, bits-over}
 use Rattle.admit.proofs.Admitting.{Sound}
 use Rattle.writer.specs.Write.{listIn}
-use Rattle.writer.specs.Decide.{figures, laid, Decided, Finishable, Finished}
+use Rattle.writer.specs.Decide.{figures, laid, decidedAnswer, decidedAreas, Decided, Finishable, Finished}
+
+-- what the laws speak of, as the clauses of a contract
+pub clauses : {q : Ruling} {rates : Rates} {list v : List ℕ} {c : List Bit} {looks : ℕ} {before : Areas} {r : Answer} {after : Areas}
+    → Decided q rates list v c looks before r after → (r ≡ decidedAnswer q rates list c looks) × (after ≡ decidedAreas q list v c before)
+clauses d = (d .answered, d .areas-after)
 
 pub decided-refused : {q : Ruling} {x : Refusal} {r : Answer} (rates : Rates) (list v : List ℕ) (c : List Bit) (looks : ℕ) (before : Areas) → q ≡ Stop x → r ≡ Refused x
     → Decided q rates list v c looks before r before
@@ -38,10 +43,10 @@ pub finishable : {price : Price} {list v st : List ℕ} {rates : Rates} {n : ℕ
     → n ≤ length choice → Finishable rates list choice v area block
 finishable s e h =
     record {
-      rates-fit = rw e (s .inputs .rates-fit);
+      rates-fit = rw e (s .fits .rates-fit);
       writable = record {
-        list-most = s .inputs .counted .list-most;
-        version-most = s .inputs .version-most;
+        list-most = s .fits .counted .list-most;
+        version-most = s .fits .version-most;
         in-version = omega (arith, s .covered .whole-is);
         in-choice = omega (arith, s .in-choice, h);
         in-area = s .in-area;

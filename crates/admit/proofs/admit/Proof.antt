@@ -1,27 +1,27 @@
 -- `admit::admit` meets its contract: the first part that is not fine is what the checks come to. Assumes nothing.
 use mathlib.Core.Path.{_≡_, sym, _∙_}
 use Rattle.format.specs.declared.Ruling.the-variants.{Fine}
-use Rattle.admit.specs.Admit.{inputsRuling, roomsRuling}
-use Rattle.admit.proofs.Admitting.{inputs-of-fine}
+use Rattle.admit.specs.Admit.{firstRuling, roomsRuling}
+use Rattle.admit.proofs.Admitting.{fits-of-first}
 use borrow.Author.Needs.{needs}
 use Rattle.admit.proofs.admit.Statement.{statement}
 use Rattle.admit.proofs.admit.Tie as tie
 
-inputs-requires : tie.Need-inputs-requires
-inputs-requires c κs = search needs
+first-checks-requires : tie.Need-first-checks-requires
+first-checks-requires c κs = search needs
 
 enum-known-first : tie.Need-enum-known-first
 enum-known-first c = search needs
 
 returns : tie.Need-returns
-returns c = rw (sym (c .before .before .before .inputs .ensures) ∙ c .before .first .given .1)
+returns c = rw (sym (c .before .before .before .first-checks .ensures) ∙ c .before .first .given .1)
 
 enum-told : tie.Need-enum-told
 enum-told c = search needs
 
 -- checks 1, 2 and 3 have passed; so has check 9
-passed : (c : tie.After-enum-told) → let g = c .before .before .before .before .before .before .args in inputsRuling (g .price) (g .list .now) (g .version .now) (g .store .now) ≡ Fine
-passed c = sym (c .before .before .inputs .ensures) ∙ c .enum-told .given .1
+passed : (c : tie.After-enum-told) → let g = c .before .before .before .before .before .before .args in firstRuling (g .price) (g .list .now) (g .version .now) (g .store .now) ≡ Fine
+passed c = sym (c .before .before .first-checks .ensures) ∙ c .enum-told .given .1
 
 roomy : (c : tie.After-enum-told2) → let g = c .before .before .before .before .before .before .before .before .before .args in
     roomsRuling (g .list .now) (g .version .now) (g .choice-room) (g .list-room) (g .block-room) ≡ Fine
@@ -42,7 +42,7 @@ enum-told-2 c = search needs
 cover-requires : tie.Need-cover-requires
 cover-requires c κs =
     let g = c .before .before .before .before .before .before .before .before .before .args in
-    let i = inputs-of-fine (g .price) (g .list .now) (g .version .now) (g .store .now) (passed (c .before .before .before)) in
+    let i = fits-of-first (g .price) (g .list .now) (g .version .now) (g .store .now) (passed (c .before .before .before)) in
     record { list-most = i .counted .list-most; version-most = i .version-most }
 
 returns-3 : tie.Need-returns-3
@@ -52,7 +52,7 @@ pub admit-spec : {M : Type 1} → statement M
 admit-spec =
     tie.close
     (tie.spec
-    inputs-requires
+    first-checks-requires
     enum-known-first
     returns
     enum-told

@@ -10,7 +10,7 @@ use Rattle.choice.specs.Choice.{leastOf}
 use Rattle.choice.proofs.Least.{least-fits}
 use Rattle.admit.specs.Admit.{partitionRuling}
 use Rattle.admit.proofs.Admitting.{Admitted, admitted-of-through}
-use Rattle.writer.proofs.Deciding.{decided-refused, finishable, decided}
+use Rattle.writer.proofs.Deciding.{clauses, decided-refused, finishable, decided}
 use borrow.Author.Needs.{needs}
 use Rattle.call_partition.proofs.partition.Statement.{statement}
 use Rattle.call_partition.proofs.partition.Tie as tie
@@ -33,7 +33,7 @@ returns c =
     let before = areas (g .choice .now) (g .list-area .now) (g .block-area .now) in
     let ruling = partitionRuling (g .price) (g .list .now) (g .version .now) (g .store .now) before in
     let stop = stop-of-refusal ruling (recordsOf (g .list .now)) (c .before .before .before .admit .ensures) (c .before .enum-told .given .1) (c .refusal-of .ensures) in
-    decided-refused (ratesOf (g .price)) (g .list .now) (g .version .now) (leastOf (g .price) (g .list .now)) 0 before stop refl
+    clauses (decided-refused (ratesOf (g .price)) (g .list .now) (g .version .now) (leastOf (g .price) (g .list .now)) 0 before stop refl)
 
 -- all checks have passed
 passed : (c : tie.After-w) → let g = c .before .before .before .before .before .before .before .before .before .args in
@@ -46,7 +46,7 @@ rates-of-requires c κs = search needs
 least-choice-requires : tie.Need-least-choice-requires
 least-choice-requires c κs =
     let s = passed (c .before .before .before) .sound in
-    record { rates-fit = rw (c .before .rates-of .ensures) (s .inputs .rates-fit); n-most = omega (arith, s .inputs .counted .list-most); in-list = omega arith; in-choice = s .in-choice }
+    record { rates-fit = rw (c .before .rates-of .ensures) (s .fits .rates-fit); n-most = omega (arith, s .fits .counted .list-most); in-list = omega arith; in-choice = s .in-choice }
 
 finish-requires : tie.Need-finish-requires
 finish-requires c κs = finishable (passed (c .before .before .before .before .before .before .before .before .before) .sound) (c .before .before .before .before .before .before .before .rates-of .ensures) (search needs)
@@ -65,7 +65,7 @@ returns-2 c =
     let g = c .before .before .before .before .before .before .before .before .before .before .before .before .before .before .before .before .before .before .before .before .before .before .before .args in
     let rates = c .before .before .before .before .before .before .before .before .before .before .before .before .rates-of .ensures in
     let chosen = rw rates at (c .before .before .before .before .before .before .before .before .before .before .least-choice .ensures) in
-    decided (passed (c .before .before .before .before .before .before .before .before .before .before .before .before .before .before) .fine) (least-fits (ratesOf (g .price)) (recordsOf (g .list .now))) (chosen .area) (rw rates at (c .before .before .before .before .finish .ensures))
+    clauses (decided (passed (c .before .before .before .before .before .before .before .before .before .before .before .before .before .before) .fine) (least-fits (ratesOf (g .price)) (recordsOf (g .list .now))) (chosen .area) (rw rates at (c .before .before .before .before .finish .ensures)))
 
 pub partition-spec : {M : Type 1} → statement M
 partition-spec =

@@ -34,7 +34,8 @@ returns c =
     let ruling = partitionRuling (g .price) (g .list .now) (g .version .now) (g .store .now) before in
     let stop = stop-of-refusal ruling (recordsOf (g .list .now)) (c .before .before .before .admit .ensures) (c .before .enum-told .given .1) (c .refusal-of .ensures) in
     let choice = passChoiceOf (g .price) (g .list .now) in
-    record { decided = decided-refused (ratesOf (g .price)) (g .list .now) (g .version .now) choice (passLooksOf (g .price) (g .list .now)) before stop refl; few-looks = omega arith }
+    let refused = decided-refused (ratesOf (g .price)) (g .list .now) (g .version .now) choice (passLooksOf (g .price) (g .list .now)) before stop refl in
+    (refused .answered, (refused .areas-after, omega arith))
 
 -- all checks have passed
 passed : (c : tie.After-w) → let g = c .before .before .before .before .before .before .before .before .before .args in
@@ -48,11 +49,11 @@ pass-choice-requires : tie.Need-pass-choice-requires
 pass-choice-requires c κs =
     let s = passed (c .before .before .before) .sound in
     record {
-      rates-fit = rw (c .before .rates-of .ensures) (s .inputs .rates-fit);
-      list-most = s .inputs .counted .list-most;
-      room = omega (arith, s .in-choice, s .inputs .counted .whole-records);
+      rates-fit = rw (c .before .rates-of .ensures) (s .fits .rates-fit);
+      list-most = s .fits .counted .list-most;
+      room = omega (arith, s .in-choice, s .fits .counted .whole-records);
       sized = s .covered .well-formed .sized;
-      whole-most = omega (arith, s .covered .whole-is, s .inputs .version-most);
+      whole-most = omega (arith, s .covered .whole-is, s .fits .version-most);
     }
 
 finish-requires : tie.Need-finish-requires
@@ -75,7 +76,8 @@ returns-2 c =
     let rates = c .before .before .before .before .before .before .before .before .before .before .before .before .rates-of .ensures in
     let chosen = rw rates at (c .before .before .before .before .before .before .before .before .before .before .pass-choice .ensures) in
     let made = rw (rates, chosen .looks-are) at (c .before .before .before .before .finish .ensures) in
-    record { decided = decided (x .fine) (holds .choice) (chosen .area) made; few-looks = rw (made .answered) (holds .few) }
+    let d = decided (x .fine) (holds .choice) (chosen .area) made in
+    (d .answered, (d .areas-after, rw (made .answered) (holds .few)))
 
 pub pass-spec : {M : Type 1} → statement M
 pass-spec =

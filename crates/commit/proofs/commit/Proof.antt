@@ -34,7 +34,8 @@ returns c =
     let g = c .before .before .before .before .before .before .before .before .before .before .args in
     let ruling = admitRuling (g .price) (g .list .now) (g .version .now) (g .store .now) (length (g .list .now) / 12) (length (g .list-area .now)) (length (g .block-area .now)) in
     let stop = stop-of-refusal ruling (recordsOf (g .list .now)) (c .before .before .before .admit .ensures) (c .before .enum-told .given .1) (c .refusal-of .ensures) in
-    stopped-by-admit (g .price) (g .list .now) (g .version .now) (g .store .now) (g .choice .now) (g .list-area .now) (g .block-area .now) stop refl
+    let refused = stopped-by-admit (g .price) (g .list .now) (g .version .now) (g .store .now) (g .choice .now) (g .list-area .now) (g .block-area .now) stop refl in
+    (refused .answered, (refused .list-after, refused .block-after))
 
 -- partition's checks have passed; so has check 12
 passed : (c : tie.After-w) → let g = c .before .before .before .before .before .before .before .before .before .args in
@@ -45,7 +46,7 @@ allowed : (c : tie.After-enum-told2) → let g = c .before .before .before .befo
 allowed c = sym (c .before .before .check-choice .ensures) ∙ c .enum-told2 .given .1
 
 check-choice-requires : tie.Need-check-choice-requires
-check-choice-requires c κs = passed (c .before) .sound .inputs .counted .list-most
+check-choice-requires c κs = passed (c .before) .sound .fits .counted .list-most
 
 enum-known-refusal : tie.Need-enum-known-refusal
 enum-known-refusal c = search needs
@@ -54,7 +55,8 @@ returns-2 : tie.Need-returns-2
 returns-2 c =
     let g = c .before .before .before .before .before .before .before .before .before .before .before .before .before .before .args in
     let stop = sym (c .before .before .before .check-choice .ensures) ∙ c .before .refusal .given .1 in
-    stopped-by-choice (g .price) (g .list .now) (g .version .now) (g .store .now) (g .choice .now) (g .list-area .now) (g .block-area .now) (passed (c .before .before .before .before .before) .fine) stop refl
+    let refused = stopped-by-choice (g .price) (g .list .now) (g .version .now) (g .store .now) (g .choice .now) (g .list-area .now) (g .block-area .now) (passed (c .before .before .before .before .before) .fine) stop refl in
+    (refused .answered, (refused .list-after, refused .block-after))
 
 enum-told-2 : tie.Need-enum-told-2
 enum-told-2 c = search needs
@@ -78,7 +80,8 @@ returns-3 : tie.Need-returns-3
 returns-3 c =
     let g = c .before .before .before .before .before .before .before .before .before .before .before .before .before .before .before .before .before .before .before .before .before .args in
     let done = rw (c .before .before .before .before .before .before .before .rates-of .ensures) at (c .before .before .before .before .finish .ensures) in
-    committed (g .price) (g .list .now) (g .version .now) (g .store .now) (g .choice .now) (g .list-area .now) (g .block-area .now) (passed (c .before .before .before .before .before .before .before .before .before .before .before .before) .fine) (allowed (c .before .before .before .before .before .before .before .before)) done
+    let made = committed (g .price) (g .list .now) (g .version .now) (g .store .now) (g .choice .now) (g .list-area .now) (g .block-area .now) (passed (c .before .before .before .before .before .before .before .before .before .before .before .before) .fine) (allowed (c .before .before .before .before .before .before .before .before)) done in
+    (made .answered, (made .list-after, made .block-after))
 
 pub commit-spec : {M : Type 1} → statement M
 commit-spec =

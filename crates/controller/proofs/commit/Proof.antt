@@ -1,14 +1,11 @@
 -- `controller::commit` meets its contract. Assumes nothing.
-use mathlib.Core.Path.{_∙_}
 use Rattle.answer.proofs.Answering.{answered-short, answered-given, lent-short, lent-given}
 use borrow.Author.Needs.{needs}
 use Rattle.controller.proofs.commit.Statement.{statement}
 use Rattle.controller.proofs.commit.Tie as tie
 
 returns : tie.Need-returns
-returns c =
-    let g = c .before .before .before .before .before .before .before .before .args in
-    (answered-short _ (g .answer .now) (c .if1 .taken), (lent-short (g .answer .now) _ (g .list-area .now) (c .if1 .taken), lent-short (g .answer .now) _ (g .block-area .now) (c .if1 .taken)))
+returns c = (answered-short (c .if1 .taken), (lent-short _ _ _ (c .if1 .taken), lent-short _ _ _ (c .if1 .taken)))
 
 commit-requires : tie.Need-commit-requires
 commit-requires c κs = search needs
@@ -27,10 +24,9 @@ same-length-3 c = search needs
 
 returns-2 : tie.Need-returns-2
 returns-2 c =
-    let g = c .before .before .before .before .before .before .before .before .before .before .before .before .before .before .before .before .before .before .before .args in (
-      answered-given _ (c .before .before .before .before .before .before .before .before .commit .result) (g .answer .now) (c .before .before .give .result) _ (c .before .before .before .before .before .before .before .before .before .before .before .if1 .left) (c .before .before .before .before .before .before .before .before .commit .ensures .answered) (c .before .before .give .ensures .0) (c .before .before .give .ensures .1),
-      (c .before .before .before .before .before .before .before .before .commit .ensures .list-after ∙ lent-given (g .answer .now) _ (g .list-area .now) (c .before .before .before .before .before .before .before .before .before .before .before .if1 .left), c .before .before .before .before .before .before .before .before .commit .ensures .block-after ∙ lent-given (g .answer .now) _ (g .block-area .now) (c .before .before .before .before .before .before .before .before .before .before .before .if1 .left)),
-    )
+    let made = c .before .before .before .before .before .before .before .before .commit .ensures in
+    let long = c .before .before .before .before .before .before .before .before .before .before .before .if1 .left in
+    (answered-given long (made .0) (c .before .before .give .ensures), (lent-given _ _ _ long (made .1 .0), lent-given _ _ _ long (made .1 .1)))
 
 pub commit-spec : {M : Type 1} → statement M
 commit-spec = tie.close (tie.spec returns commit-requires give-requires same-length same-length-2 same-length-3 returns-2)

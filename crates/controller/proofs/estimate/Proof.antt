@@ -1,14 +1,11 @@
 -- `controller::estimate` meets its contract. Assumes nothing.
-use mathlib.Core.Path.{_∙_}
-use Rattle.answer.proofs.Answering.{answered-short, answered-given, lent-short, lent-given}
+use Rattle.answer.proofs.Answering.{call-short, call-given}
 use borrow.Author.Needs.{needs}
 use Rattle.controller.proofs.estimate.Statement.{statement}
 use Rattle.controller.proofs.estimate.Tie as tie
 
 returns : tie.Need-returns
-returns c =
-    let g = c .before .before .before .before .before .before .args in
-    (answered-short _ (g .answer .now) (c .if1 .taken), lent-short (g .answer .now) _ (g .choice .now) (c .if1 .taken))
+returns c = call-short _ _ _ _ (c .if1 .taken)
 
 estimate-requires : tie.Need-estimate-requires
 estimate-requires c κs = search needs
@@ -23,11 +20,7 @@ same-length-2 : tie.Need-same-length-2
 same-length-2 c = search needs
 
 returns-2 : tie.Need-returns-2
-returns-2 c =
-    let g = c .before .before .before .before .before .before .before .before .before .before .before .before .before .before .args in (
-      answered-given _ (c .before .before .before .before .before .before .estimate .result) (g .answer .now) (c .before .before .give .result) _ (c .before .before .before .before .before .before .before .before .if1 .left) (c .before .before .before .before .before .before .estimate .ensures .answered) (c .before .before .give .ensures .0) (c .before .before .give .ensures .1),
-      c .before .before .before .before .before .before .estimate .ensures .area-after ∙ lent-given (g .answer .now) _ (g .choice .now) (c .before .before .before .before .before .before .before .before .if1 .left),
-    )
+returns-2 c = call-given _ _ (c .before .before .before .before .before .before .before .before .if1 .left) (c .before .before .before .before .before .before .estimate .ensures) (c .before .before .give .ensures)
 
 pub estimate-spec : {M : Type 1} → statement M
 estimate-spec = tie.close (tie.spec returns estimate-requires give-requires same-length same-length-2 returns-2)

@@ -1,20 +1,11 @@
 -- `controller::partition` meets its contract. Assumes nothing.
-use Rattle.price.specs.declared.Price.{Price}
-use Rattle.price.specs.Price.{ratesOf}
-use Rattle.area.specs.Area.{areas}
-use Rattle.admit.specs.Admit.{partitionRuling}
-use Rattle.choice.specs.Choice.{leastOf}
-use Rattle.controller.proofs.Answering.{call-short, call-given}
+use Rattle.answer.proofs.Answering.{call-short, call-given}
 use borrow.Author.Needs.{needs}
 use Rattle.controller.proofs.partition.Statement.{statement}
 use Rattle.controller.proofs.partition.Tie as tie
 
 returns : tie.Need-returns
-returns c =
-    let g = c .before .before .before .before .before .before .before .before .args in
-    let price : Price = record { en = g .en; em = g .em; f = g .f } in
-    let before = areas (g .choice .now) (g .list-area .now) (g .block-area .now) in
-    call-short (partitionRuling price (g .list .now) (g .version .now) (g .store .now) before) (ratesOf price) (g .list .now) (g .version .now) (leastOf price (g .list .now)) 0 before (g .answer .now) (c .if1 .taken)
+returns c = call-short _ _ _ _ (c .if1 .taken)
 
 partition-requires : tie.Need-partition-requires
 partition-requires c κs = search needs
@@ -35,7 +26,7 @@ same-length-4 : tie.Need-same-length-4
 same-length-4 c = search needs
 
 returns-2 : tie.Need-returns-2
-returns-2 c = call-given (c .before .before .before .before .before .before .before .before .before .before .before .before .before .before .if1 .left) (c .before .before .before .before .before .before .before .before .before .before .partition .ensures) (c .before .before .give .ensures .0) (c .before .before .give .ensures .1)
+returns-2 c = call-given _ _ (c .before .before .before .before .before .before .before .before .before .before .before .before .before .before .if1 .left) (c .before .before .before .before .before .before .before .before .before .before .partition .ensures) (c .before .before .give .ensures)
 
 pub partition-spec : {M : Type 1} → statement M
 partition-spec =

@@ -1,20 +1,11 @@
 -- `controller::pass` meets its contract. Assumes nothing.
-use Rattle.price.specs.declared.Price.{Price}
-use Rattle.price.specs.Price.{ratesOf}
-use Rattle.area.specs.Area.{areas}
-use Rattle.admit.specs.Admit.{partitionRuling}
-use Rattle.call_pass.specs.Pass.{passChoiceOf, passLooksOf}
-use Rattle.controller.proofs.Answering.{call-short, call-given}
+use Rattle.answer.proofs.Answering.{call-short, call-given}
 use borrow.Author.Needs.{needs}
 use Rattle.controller.proofs.pass.Statement.{statement}
 use Rattle.controller.proofs.pass.Tie as tie
 
 returns : tie.Need-returns
-returns c =
-    let g = c .before .before .before .before .before .before .before .before .args in
-    let price : Price = record { en = g .en; em = g .em; f = g .f } in
-    let before = areas (g .choice .now) (g .list-area .now) (g .block-area .now) in
-    call-short (partitionRuling price (g .list .now) (g .version .now) (g .store .now) before) (ratesOf price) (g .list .now) (g .version .now) (passChoiceOf price (g .list .now)) (passLooksOf price (g .list .now)) before (g .answer .now) (c .if1 .taken)
+returns c = call-short _ _ _ _ (c .if1 .taken)
 
 pass-requires : tie.Need-pass-requires
 pass-requires c κs = search needs
@@ -35,7 +26,9 @@ same-length-4 : tie.Need-same-length-4
 same-length-4 c = search needs
 
 returns-2 : tie.Need-returns-2
-returns-2 c = call-given (c .before .before .before .before .before .before .before .before .before .before .before .before .before .before .if1 .left) (c .before .before .before .before .before .before .before .before .before .before .pass .ensures .decided) (c .before .before .give .ensures .0) (c .before .before .give .ensures .1)
+returns-2 c =
+    let made = c .before .before .before .before .before .before .before .before .before .before .pass .ensures in
+    call-given _ _ (c .before .before .before .before .before .before .before .before .before .before .before .before .before .before .if1 .left) (made .0, made .1 .0) (c .before .before .give .ensures)
 
 pub pass-spec : {M : Type 1} → statement M
 pass-spec =

@@ -28,7 +28,8 @@ returns c =
     let g = c .before .before .before .before .before .before .before .before .args in
     let ruling = estimateRuling (g .price) (g .list .now) (g .version .now) (g .store .now) (g .choice .now) in
     let stop = stop-of-refusal ruling (recordsOf (g .list .now)) (c .before .before .before .admit .ensures) (c .before .enum-told .given .1) (c .refusal-of .ensures) in
-    stopped (g .price) (g .list .now) (g .version .now) (g .store .now) (g .choice .now) stop refl
+    let refused = stopped (g .price) (g .list .now) (g .version .now) (g .store .now) (g .choice .now) stop refl in
+    (refused .answered, refused .area-after)
 
 -- all checks have passed
 passed : (c : tie.After-w) → let g = c .before .before .before .before .before .before .before .args in
@@ -41,15 +42,15 @@ rates-of-requires c κs = search needs
 least-choice-requires : tie.Need-least-choice-requires
 least-choice-requires c κs =
     let s = passed (c .before .before .before) .sound in
-    record { rates-fit = rw (c .before .rates-of .ensures) (s .inputs .rates-fit); n-most = omega (arith, s .inputs .counted .list-most); in-list = omega arith; in-choice = s .in-choice }
+    record { rates-fit = rw (c .before .rates-of .ensures) (s .fits .rates-fit); n-most = omega (arith, s .fits .counted .list-most); in-list = omega arith; in-choice = s .in-choice }
 
 count-requires : tie.Need-count-requires
 count-requires c κs =
     let s = passed (c .before .before .before .before .before .before .before) .sound in
     record {
-      list-most = s .inputs .counted .list-most;
+      list-most = s .fits .counted .list-most;
       in-choice = omega (arith, s .in-choice, c .before .before .choice .given);
-      whole-most = omega (arith, s .covered .whole-is, s .inputs .version-most);
+      whole-most = omega (arith, s .covered .whole-is, s .fits .version-most);
     }
 
 same-length : tie.Need-same-length
@@ -59,7 +60,8 @@ returns-2 : tie.Need-returns-2
 returns-2 c =
     let g = c .before .before .before .before .before .before .before .before .before .before .before .before .before .before .before .args in
     let least = rw (c .before .before .before .before .before .before .rates-of .ensures) at (c .before .before .before .before .least-choice .ensures) in
-    estimated (g .price) (g .list .now) (g .version .now) (g .store .now) (g .choice .now) (passed (c .before .before .before .before .before .before .before .before) .fine) least (c .count .ensures)
+    let made = estimated (g .price) (g .list .now) (g .version .now) (g .store .now) (g .choice .now) (passed (c .before .before .before .before .before .before .before .before) .fine) least (c .count .ensures) in
+    (made .answered, made .area-after)
 
 pub estimate-spec : {M : Type 1} → statement M
 estimate-spec =

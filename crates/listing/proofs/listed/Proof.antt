@@ -2,6 +2,8 @@
 use Prim.Native.Nat.{ℕ, _*_, _-_}
 use native.Mathlib.Omega.{arith}
 use mathlib.Core.Path.{ap}
+use Rattle.area.specs.Area.{areas}
+use Rattle.call_partition.proofs.Meeting.{partitioned}
 use Rattle.listing.proofs.Telling.{stop-of-answer, list-in-area, text-room, text-listed}
 use borrow.Author.Needs.{needs}
 use Rattle.listing.proofs.listed.Statement.{statement}
@@ -35,7 +37,7 @@ part-report-end : tie.Need-part-report-end
 part-report-end c =
     let start = c .before .before .before .before .before .before .before .before .before .before .before .before .before .before .before .before .before .before .before .before .before .before .before in
     let g = start .args in
-    let made = c .before .before .before .before .before .before .before .before .before .before .before .before .partition .ensures in
+    let made = partitioned (g .price) (g .list .now) (g .version .now) (g .store .now) (areas (g .choice .now) (g .list-area .now) (g .block-area .now)) (c .before .before .before .before .before .before .before .before .before .before .before .before .partition .ensures) in
     let said = c .before .before .before .before .answer2 .given .1 in
     let n-is = c .before .before .index .ensures .0 in
     omega (arith, n-is, list-in-area (g .price) (g .list .now) (g .version .now) (g .store .now) (g .choice .now) (g .list-area .now) (g .block-area .now) (g .text .now) (start .pre) made said (12 * c .before .before .index .result) (ap (λ (k : ℕ). 12 * k) n-is))
@@ -44,7 +46,7 @@ report-requires : tie.Need-report-requires
 report-requires c κs =
     let start = c .before .before .before .before .before .before .before .before .before .before .before .before .before .before .before .before .before .before .before .before .before .before .before .before in
     let g = start .args in
-    let made = c .before .before .before .before .before .before .before .before .before .before .before .before .before .partition .ensures in
+    let made = partitioned (g .price) (g .list .now) (g .version .now) (g .store .now) (areas (g .choice .now) (g .list-area .now) (g .block-area .now)) (c .before .before .before .before .before .before .before .before .before .before .before .before .before .partition .ensures) in
     let said = c .before .before .before .before .before .answer2 .given .1 in
     text-room (g .price) (g .list .now) (g .version .now) (g .store .now) (g .choice .now) (g .list-area .now) (g .block-area .now) (g .text .now) (start .pre) made said (12 * c .before .before .before .index .result - 0) (omega (arith, c .before .before .before .index .ensures .0))
 
@@ -64,7 +66,7 @@ returns : tie.Need-returns
 returns c =
     let start = c .before .before .before .before .before .before .before .before .before .before .before .before .before .before .before .before .before .before .before .before .before .before .before .before in
     let g = start .args in
-    let made = c .before .before .before .before .before .before .before .before .before .before .before .before .before .partition .ensures in
+    let made = partitioned (g .price) (g .list .now) (g .version .now) (g .store .now) (areas (g .choice .now) (g .list-area .now) (g .block-area .now)) (c .before .before .before .before .before .before .before .before .before .before .before .before .before .partition .ensures) in
     let said = c .before .before .before .before .before .answer .given .1 in
     rw (stop-of-answer (g .price) (g .list .now) (g .version .now) (g .store .now) (g .choice .now) (g .list-area .now) (g .block-area .now) (g .text .now) (start .pre) made said) (c .before .before .refusal .ensures)
 
@@ -84,7 +86,7 @@ returns-2 : tie.Need-returns-2
 returns-2 c =
     let start = c .before .before .before .before .before .before .before .before .before .before .before .before .before .before .before .before .before .before .before .before .before .before .before .before .before .before .before in
     let g = start .args in
-    let made = c .before .before .before .before .before .before .before .before .before .before .before .before .before .before .before .before .partition .ensures in
+    let made = partitioned (g .price) (g .list .now) (g .version .now) (g .store .now) (areas (g .choice .now) (g .list-area .now) (g .block-area .now)) (c .before .before .before .before .before .before .before .before .before .before .before .before .before .before .before .before .partition .ensures) in
     let said = c .before .before .before .before .before .before .before .before .answer2 .given .1 in
     let n = 12 * c .before .before .before .before .before .before .index .result - 0 in
     rw (text-listed (g .price) (g .list .now) (g .version .now) (g .store .now) (g .choice .now) (g .list-area .now) (g .block-area .now) (g .text .now) (start .pre) made (g .y) said n (omega (arith, c .before .before .before .before .before .before .index .ensures .0))) (c .before .before .report .ensures)

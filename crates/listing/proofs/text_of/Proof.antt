@@ -1,4 +1,6 @@
 -- `listing::text_of` meets its contract: the pass's refusal is partition's, and its figures go into the text. Assumes nothing.
+use Rattle.area.specs.Area.{areas}
+use Rattle.call_pass.proofs.Meeting.{pass-made}
 use Rattle.listing.proofs.Telling.{stop-of-answer, figures-of-answer}
 use borrow.Author.Needs.{needs}
 use Rattle.listing.proofs.text_of.Statement.{statement}
@@ -35,7 +37,7 @@ returns : tie.Need-returns
 returns c =
     let start = c .before .before .before .before .before .before .before .before .before .before .before .before .before .before .before .before .before .before .before .before .before .before .before .before in
     let g = start .args in
-    let made = c .before .before .before .before .before .before .before .before .before .before .before .before .before .pass .ensures .decided in
+    let made = pass-made (g .price) (g .list .now) (g .version .now) (g .store .now) (areas (g .choice .now) (g .list-area .now) (g .block-area .now)) (c .before .before .before .before .before .before .before .before .before .before .before .before .before .pass .ensures) .decided in
     let said = c .before .before .before .before .before .answer .given .1 in
     rw (stop-of-answer (g .price) (g .list .now) (g .version .now) (g .store .now) (g .choice .now) (g .list-area .now) (g .block-area .now) (g .text .now) (start .pre) made said) (c .before .before .refusal .ensures)
 
@@ -55,7 +57,7 @@ returns-2 : tie.Need-returns-2
 returns-2 c =
     let start = c .before .before .before .before .before .before .before .before .before .before .before .before .before .before .before .before .before .before .before .before .before .before .before .before .before .before .before .before .before .before .before .before .before in
     let g = start .args in
-    let made = c .before .before .before .before .before .before .before .before .before .before .before .before .before .before .before .before .before .before .before .before .before .before .pass .ensures .decided in
+    let made = pass-made (g .price) (g .list .now) (g .version .now) (g .store .now) (areas (g .choice .now) (g .list-area .now) (g .block-area .now)) (c .before .before .before .before .before .before .before .before .before .before .before .before .before .before .before .before .before .before .before .before .before .before .pass .ensures) .decided in
     let said = c .before .before .before .before .before .before .before .before .before .before .before .before .before .before .answer2 .given .1 in
     rw (figures-of-answer (g .price) (g .list .now) (g .version .now) (g .store .now) (g .choice .now) (g .list-area .now) (g .block-area .now) (g .text .now) (start .pre) made said) at (c .before .before .before .before .before .before .before .before .listed .ensures)
 

@@ -1,16 +1,18 @@
 -- `measure::measure` meets its contract: each way out is the refusal of the check that failed there, or the figures of the list. Assumes nothing.
 use native.Mathlib.Omega.{arith}
-use mathlib.Core.Path.{sym, _∙_, ap}
-use borrow.Author.Tests.{not-true, not-false}
-use Rattle.format.specs.declared.Answer.the-variants.{Refused}
-use Rattle.format.specs.Record.{recordsOf}
-use Rattle.format.proofs.Rows.{counted-of-fits}
+use mathlib.Core.Path.{_≡_, sym, _∙_, ap}
+use mathlib.Core.Bool.{true}
 use mathlib.Core.List.{[]}
+use borrow.Author.Tests.{not-true, not-false}
+use Rattle.format.specs.declared.Ruling.the-variants.{Fine}
+use Rattle.format.specs.Record.{listFits, recordsOf}
+use Rattle.format.proofs.Rows.{counted-of-fits}
 use Rattle.walk.specs.declared.Scope.the-variants as scope
 use Rattle.walk.specs.declared.Totals.{Totals}
 use Rattle.walk.specs.Checks.{checks, walkRuling}
-use Rattle.walk.specs.Walked.{refusalOf}
-use Rattle.walk.proofs.Telling.{fine-of-through, stop-of-stopped}
+use Rattle.walk.specs.Walked.{totals}
+use Rattle.walk.proofs.Telling.{fine-of-through, stop-of-refusal}
+use Rattle.price.specs.Price.{priceFits}
 use Rattle.price.proofs.Bounds.{rates-fit}
 use Rattle.measure.proofs.Measuring.{measured-price, measured-length, measured-stop, measured-fine}
 use borrow.Author.Needs.{needs}
@@ -34,10 +36,23 @@ list-fits-requires c κs = search needs
 refused-requires-2 : tie.Need-refused-requires-2
 refused-requires-2 c κs = search needs
 
+-- check 1 has passed; so has check 3; so has the walk, whose totals are the list's
+priced : (c : tie.Else1) → priceFits (c .before .before .before .args .price) ≡ true
+priced c = sym (c .before .in-range .ensures) ∙ not-false _ (c .if1 .left)
+
+short : (c : tie.Else2) → listFits (c .before .before .before .before .before .args .list .now) ≡ true
+short c = sym (c .before .list-fits .ensures) ∙ not-false _ (c .if2 .left)
+
+passed : (c : tie.After-walked) → let list = c .before .before .before .before .before .before .before .before .before .args .list .now in
+    (walkRuling (checks scope.Sizes [] []) list ≡ Fine) × (c .walked .given .0 .0 ≡ totals (recordsOf list))
+passed c =
+    let list = c .before .before .before .before .before .before .before .before .before .args .list .now in
+    fine-of-through (walkRuling (checks scope.Sizes [] []) list) (recordsOf list) (c .walked .given .0 .0) (sym (c .before .before .walk .ensures) ∙ c .walked .given .1)
+
 returns-2 : tie.Need-returns-2
 returns-2 c =
     let g = c .before .before .before .before .before .before .args in
-    c .refused2 .ensures ∙ sym (measured-length (g .price) (g .list .now) (sym (c .before .before .before .before .in-range .ensures) ∙ not-false _ (c .before .before .before .if1 .left)) (sym (c .before .before .list-fits .ensures) ∙ not-true _ (c .before .if2 .taken)))
+    c .refused2 .ensures ∙ sym (measured-length (g .price) (g .list .now) (priced (c .before .before .before)) (sym (c .before .before .list-fits .ensures) ∙ not-true _ (c .before .if2 .taken)))
 
 sub-none : tie.Need-sub-none
 sub-none c = search needs
@@ -49,10 +64,7 @@ part-none-end : tie.Need-part-none-end
 part-none-end c = search needs
 
 walk-requires : tie.Need-walk-requires
-walk-requires c κs =
-    let g = c .before .before .before .before .before .before .args in
-    let fits = counted-of-fits (g .list .now) (sym (c .before .before .list-fits .ensures) ∙ not-false _ (c .before .if2 .left)) in
-    record { list-most = fits .list-most; version-most = omega arith }
+walk-requires c κs = record { list-most = counted-of-fits (c .before .before .before .before .before .before .args .list .now) (short (c .before)) .list-most; version-most = omega arith }
 
 enum-known-walked : tie.Need-enum-known-walked
 enum-known-walked c = search needs
@@ -66,8 +78,9 @@ refusal-of-requires c κs = search needs
 returns-3 : tie.Need-returns-3
 returns-3 c =
     let g = c .before .before .before .before .before .before .before .before .before .before .args in
-    let stopped = stop-of-stopped (walkRuling (checks scope.Sizes [] []) (g .list .now)) (recordsOf (g .list .now)) (c .before .enum-told .given .0 .0) (sym (c .before .before .before .walk .ensures) ∙ c .before .enum-told .given .1) in
-    ap Refused (c .refusal-of .ensures ∙ ap refusalOf (c .before .enum-told .given .1)) ∙ sym (measured-stop (g .price) (g .list .now) (sym (c .before .before .before .before .before .before .before .before .in-range .ensures) ∙ not-false _ (c .before .before .before .before .before .before .before .if1 .left)) (sym (c .before .before .before .before .before .before .list-fits .ensures) ∙ not-false _ (c .before .before .before .before .before .if2 .left)) _ stopped)
+    let walk = walkRuling (checks scope.Sizes [] []) (g .list .now) in
+    let stop = stop-of-refusal walk (recordsOf (g .list .now)) (c .before .before .before .walk .ensures) (c .before .enum-told .given .1) (c .refusal-of .ensures) in
+    sym (measured-stop (g .price) (g .list .now) (priced (c .before .before .before .before .before .before .before)) (short (c .before .before .before .before .before)) _ stop)
 
 rates-of-requires : tie.Need-rates-of-requires
 rates-of-requires c κs = search needs
@@ -75,22 +88,21 @@ rates-of-requires c κs = search needs
 cost-of-requires : tie.Need-cost-of-requires
 cost-of-requires c κs =
     let g = c .before .before .before .before .before .before .before .before .before .before .before .args in
-    let through = fine-of-through (walkRuling (checks scope.Sizes [] []) (g .list .now)) (recordsOf (g .list .now)) (c .before .before .walked .given .0 .0) (sym (c .before .before .before .before .walk .ensures) ∙ c .before .before .walked .given .1) in
     record {
-      rates-fit = rw (c .rates-of .ensures) (rates-fit (g .price) (sym (c .before .before .before .before .before .before .before .before .before .in-range .ensures) ∙ not-false _ (c .before .before .before .before .before .before .before .before .if1 .left)));
-      list-most = (counted-of-fits (g .list .now) (sym (c .before .before .before .before .before .before .before .list-fits .ensures) ∙ not-false _ (c .before .before .before .before .before .before .if2 .left))) .list-most;
-      stored-is = ap (λ (t : Totals). t .stored) (through .1);
+      rates-fit = rw (c .rates-of .ensures) (rates-fit (g .price) (priced (c .before .before .before .before .before .before .before .before)));
+      list-most = counted-of-fits (g .list .now) (short (c .before .before .before .before .before .before)) .list-most;
+      stored-is = ap (λ (t : Totals). t .stored) (passed (c .before .before) .1);
     }
 
 returns-4 : tie.Need-returns-4
 returns-4 c =
     let g = c .before .before .before .before .before .before .before .before .before .before .before .before .args in
-    let through = fine-of-through (walkRuling (checks scope.Sizes [] []) (g .list .now)) (recordsOf (g .list .now)) (c .before .before .before .walked .given .0 .0) (sym (c .before .before .before .before .before .walk .ensures) ∙ c .before .before .before .walked .given .1) in
+    let through = passed (c .before .before .before) in
     let n = ap (λ (t : Totals). t .entries) (through .1) in
     let s = ap (λ (t : Totals). t .stored) (through .1) in
     let w = ap (λ (t : Totals). t .whole) (through .1) in
     let k = rw (c .before .rates-of .ensures) at (c .cost-of .ensures) in
-    cc (measured-fine (g .price) (g .list .now) (sym (c .before .before .before .before .before .before .before .before .before .before .in-range .ensures) ∙ not-false _ (c .before .before .before .before .before .before .before .before .before .if1 .left)) (sym (c .before .before .before .before .before .before .before .before .list-fits .ensures) ∙ not-false _ (c .before .before .before .before .before .before .before .if2 .left)) (through .0))
+    cc (measured-fine (g .price) (g .list .now) (priced (c .before .before .before .before .before .before .before .before .before)) (short (c .before .before .before .before .before .before .before)) (through .0))
 
 pub measure-spec : {M : Type 1} → statement M
 measure-spec =

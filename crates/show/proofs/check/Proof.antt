@@ -1,9 +1,7 @@
 -- `show::check` meets its contract. Assumes nothing.
-use mathlib.Core.Path.{sym, _∙_, ap}
-use Rattle.format.specs.declared.Answer.the-variants.{Refused}
+use mathlib.Core.Path.{sym, _∙_}
 use Rattle.format.specs.Record.{recordsOf}
-use Rattle.walk.specs.Walked.{refusalOf}
-use Rattle.walk.proofs.Telling.{fine-of-through, stop-of-stopped}
+use Rattle.walk.proofs.Telling.{fine-of-through, stop-of-refusal}
 use Rattle.show.specs.Check.{checkRuling}
 use borrow.Author.Needs.{needs}
 use Rattle.show.proofs.check.Statement.{statement}
@@ -24,8 +22,8 @@ refusal-of-requires c κs = search needs
 returns : tie.Need-returns
 returns c =
     let g = c .before .before .before .before .before .before .before .args in
-    let stop = stop-of-stopped (checkRuling (g .list .now) (g .block .now) (g .store .now) (g .k)) (recordsOf (g .list .now)) (c .before .enum-told .given .0 .0) (sym (c .before .before .before .accept-place .ensures) ∙ c .before .enum-told .given .1) in
-    rw stop (ap Refused (c .refusal-of .ensures ∙ ap refusalOf (c .before .enum-told .given .1)))
+    let ruling = checkRuling (g .list .now) (g .block .now) (g .store .now) (g .k) in
+    rw (stop-of-refusal ruling (recordsOf (g .list .now)) (c .before .before .before .accept-place .ensures) (c .before .enum-told .given .1) (c .refusal-of .ensures))
 
 length-only-requires : tie.Need-length-only-requires
 length-only-requires c κs = search needs

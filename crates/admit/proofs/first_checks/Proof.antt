@@ -1,12 +1,12 @@
--- `admit::inputs` meets its contract: each way out is the refusal of the check that failed there, or none. Assumes nothing.
+-- `admit::first_checks` meets its contract: each way out is the refusal of the check that failed there, or none. Assumes nothing.
 use mathlib.Core.Path.{_≡_, sym, _∙_}
 use mathlib.Core.Bool.{true}
 use borrow.Author.Tests.{not-true, not-false}
 use borrow.Author.Needs.{needs}
 use Rattle.price.specs.Price.{priceFits}
 use Rattle.admit.specs.Admit.{lengthsFit}
-use Rattle.admit.proofs.inputs.Statement.{statement}
-use Rattle.admit.proofs.inputs.Tie as tie
+use Rattle.admit.proofs.first_checks.Statement.{statement}
+use Rattle.admit.proofs.first_checks.Tie as tie
 
 in-range-requires : tie.Need-in-range-requires
 in-range-requires c κs = search needs
@@ -51,8 +51,8 @@ returns-3 c =
 returns-4 : tie.Need-returns-4
 returns-4 c = rw (priced (c .before .before .before .before), short (c .before .before), sym (c .before .list-fits .ensures) ∙ not-false _ (c .if3 .left))
 
-pub inputs-spec : {M : Type 1} → statement M
-inputs-spec =
+pub first-checks-spec : {M : Type 1} → statement M
+first-checks-spec =
     tie.close
     (tie.spec
     in-range-requires
