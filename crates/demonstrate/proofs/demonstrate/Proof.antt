@@ -2,11 +2,14 @@
 -- demand 3 follows from them. Assumes nothing.
 use Prim.Native.Nat.{_*_, _-_}
 use native.Mathlib.Omega.{arith}
-use mathlib.Core.Path.{_≡_, ap}
+use mathlib.Core.Path.{_≡_, _∙_, ap}
 use Rattle.format.specs.declared.Figures.{Figures}
 use Rattle.format.specs.Refusal.{figuresIn}
+use Rattle.area.specs.Area.{areas}
 use Rattle.writer.proofs.Deciding.{list-within}
-use Rattle.demand.proofs.Demanding.{block-there, demonstrated}
+use Rattle.call_partition.proofs.Meeting.{partitioned}
+use Rattle.call_pass.proofs.Meeting.{pass-made}
+use Rattle.demand.proofs.Demanding.{block-there, demand-three}
 use borrow.Author.Needs.{needs}
 use Rattle.demonstrate.proofs.demonstrate.Statement.{statement}
 use Rattle.demonstrate.proofs.demonstrate.Tie as tie
@@ -32,8 +35,20 @@ sub-hand-on c = search needs
 part-hand-on-start : tie.Need-part-hand-on-start
 part-hand-on-start c = search needs
 
+-- what is handed on is as long as partition says
+abbrev start : tie.After-index2 → tie.Start
+start c = c .before .before .before .before .before .before .before .before .before .before .before .before .before .before .before .before .before .before .before .before .before .before .before .before .before .before
+
+entries-are : (c : tie.After-index2) → c .before .index .result ≡ figuresIn (c .before .before .before .before .before .before .before .before .before .partition .result) .entries
+entries-are c = c .before .index .ensures .0 ∙ ap (λ (y : Figures). y .entries) (c .before .before .figures-of .ensures)
+
+stored-are : (c : tie.After-index2) → c .index2 .result ≡ figuresIn (c .before .before .before .before .before .before .before .before .before .partition .result) .stored
+stored-are c = c .index2 .ensures .0 ∙ ap (λ (y : Figures). y .stored) (c .before .before .figures-of .ensures)
+
 part-hand-on-end : tie.Need-part-hand-on-end
-part-hand-on-end c = omega (arith, c .before .before .index .ensures .0, ap (λ (y : Figures). y .entries) (c .before .before .before .figures-of .ensures), list-within (c .before .before .before .before .before .before .before .before .before .before .partition .ensures))
+part-hand-on-end c =
+    let g = start (c .before) .args in
+    omega (arith, entries-are (c .before), list-within (partitioned (g .price) (g .list .now) (g .version .now) (g .store .now) (areas (g .choice1 .now) (g .list1 .now) (g .block1 .now)) (c .before .before .before .before .before .before .before .before .before .before .partition .ensures)))
 
 sub-hand-on-2 : tie.Need-sub-hand-on-2
 sub-hand-on-2 c = search needs
@@ -43,8 +58,9 @@ part-hand-on-start-2 c = search needs
 
 part-hand-on-end-2 : tie.Need-part-hand-on-end-2
 part-hand-on-end-2 c =
-    let g = c .before .before .before .before .before .before .before .before .before .before .before .before .before .before .before .before .before .before .before .before .before .before .before .before .before .before .before .before .before .args in
-    omega (arith, c .before .before .before .index2 .ensures .0, ap (λ (y : Figures). y .stored) (c .before .before .before .before .before .figures-of .ensures), block-there (g .price) (g .list .now) (g .version .now) (g .store .now) (c .before .before .before .before .before .before .before .before .before .before .before .before .partition .ensures))
+    let i = c .before .before .before in
+    let g = start i .args in
+    omega (arith, stored-are i, block-there (g .price) (g .list .now) (g .version .now) (g .store .now) (partitioned (g .price) (g .list .now) (g .version .now) (g .store .now) (areas (g .choice1 .now) (g .list1 .now) (g .block1 .now)) (i .before .before .before .before .before .before .before .before .before .partition .ensures)))
 
 hand-on-requires : tie.Need-hand-on-requires
 hand-on-requires c κs = search needs
@@ -84,15 +100,17 @@ same-length-10 c = search needs
 
 returns : tie.Need-returns
 returns c =
-    let r = c .before .before .before .before .before .before .before .before .before .before .before .before .before .before .before .before .before .before .before .before .before .before .before .before .before .before .before .before .before .before .before .before .before .before .before .before .partition .result in
-    let n : 12 * c .before .before .before .before .before .before .before .before .before .before .before .before .before .before .before .before .before .before .before .before .before .before .before .before .before .before .before .before .index .result - 0 ≡ 12 * figuresIn r .entries = omega (arith, c .before .before .before .before .before .before .before .before .before .before .before .before .before .before .before .before .before .before .before .before .before .before .before .before .before .before .before .before .index .ensures .0, ap (λ (y : Figures). y .entries) (c .before .before .before .before .before .before .before .before .before .before .before .before .before .before .before .before .before .before .before .before .before .before .before .before .before .before .before .before .before .figures-of .ensures)) in
-    let m : c .before .before .before .before .before .before .before .before .before .before .before .before .before .before .before .before .before .before .before .before .before .before .before .before .before .before .before .index2 .result - 0 ≡ figuresIn r .stored = omega (arith, c .before .before .before .before .before .before .before .before .before .before .before .before .before .before .before .before .before .before .before .before .before .before .before .before .before .before .before .index2 .ensures .0, ap (λ (y : Figures). y .stored) (c .before .before .before .before .before .before .before .before .before .before .before .before .before .before .before .before .before .before .before .before .before .before .before .before .before .before .before .before .before .figures-of .ensures)) in
-    demonstrated (record {
-      first = c .before .before .before .before .before .before .before .before .before .before .before .before .before .before .before .before .before .before .before .before .before .before .before .before .before .before .before .before .before .before .before .before .before .before .before .before .partition .ensures;
-      rebuilt = rw (n, m) at (c .before .before .before .before .before .before .before .before .before .before .before .before .before .before .before .before .before .before .hand-on .ensures .0);
-      again = rw n at (c .before .before .before .before .before .before .before .before .before .before .before .before .before .before .before .before .before .before .hand-on .ensures .1);
-      passed = c .before .before .before .before .before .before .pass .ensures;
-    })
+    let i = c .before .before .before .before .before .before .before .before .before .before .before .before .before .before .before .before .before .before .before .before .before .before .before .before .before .before .before in
+    let g = start i .args in
+    let r = i .before .before .before .before .before .before .before .before .before .partition .result in
+    let n : 12 * i .before .index .result - 0 ≡ 12 * figuresIn r .entries = omega (arith, entries-are i) in
+    let m : i .index2 .result - 0 ≡ figuresIn r .stored = omega (arith, stored-are i) in
+    let handed = c .before .before .before .before .before .before .before .before .before .before .before .before .before .before .before .before .before .before .hand-on .ensures in
+    let first = partitioned (g .price) (g .list .now) (g .version .now) (g .store .now) (areas (g .choice1 .now) (g .list1 .now) (g .block1 .now)) (i .before .before .before .before .before .before .before .before .before .partition .ensures) in
+    let rebuilt = rw (n, m) at (handed .0) in
+    let again = rw n at (handed .1) in
+    let passed = pass-made (g .price) (g .list .now) (g .version .now) (g .store .now) (areas (g .choice3 .now) (g .list3 .now) (g .block3 .now)) (c .before .before .before .before .before .before .pass .ensures) in
+    (first, (rebuilt, (again, (passed, demand-three (g .price) (g .list .now) (g .version .now) (g .store .now) _ (record { first = first; rebuilt = rebuilt; again = again; passed = passed })))))
 
 pub demonstrate-spec : {M : Type 1} → statement M
 demonstrate-spec =
