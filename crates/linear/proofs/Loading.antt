@@ -77,7 +77,7 @@ opened-at kinds sizes right q l h = go (leb 4097 right) refl
         let item : itemAt kinds sizes right ≡ itemFor q = cc in
         record { inside = i; size-is = sym (size-item (getD kinds right 0) (getD sizes right 0)) ∙ ap size item ∙ size-for q; others = cc }
 
-module _ (list : List ℕ) where
+module _ {list : List ℕ} where
   pub laid-start : length list / 12 ≤ 4096 → Laid list (replicate 4098 2) (replicate 4098 0) (length list / 12) 4097
   laid-start few =
       record {
@@ -161,9 +161,9 @@ module _ (list : List ℕ) where
       joined-most m =
           omega (arith, joined .most, whole-tidy (recordsFrom list (length list / 12) i), ap whole back, whole-from list (length list / 12) (i - 1), ap whole (recordsFrom-all list), m)
 
-  pub loaded-of-laid : (kinds sizes : List ℕ) (right : ℕ) → Laid list kinds sizes 0 right → (m : Machine)
+  pub loaded-of-laid : {kinds sizes : List ℕ} {right : ℕ} → Laid list kinds sizes 0 right → {m : Machine}
       → m ≡ record { kinds = kinds; sizes = sizes; left = 1; right = right } → Loaded m (items (tidy (recordsOf list)))
-  loaded-of-laid kinds sizes right h m e =
+  loaded-of-laid h e =
       rw e
       (record {
         gap = omega (arith, h .placed, h .few);

@@ -93,7 +93,7 @@ pub record Off (m : Machine) (list before : List ℕ) (area : List ℕ) (at u i 
   pub covered : IsChoice (recordsFrom list (length list / 12) i) (choiceOf (recordsFrom list (length list / 12) i) (toCover m at u))
   pub filling : Filling (bitBytes (choiceOf (recordsOf list) (endOf m))) before area i (bitBytes (choiceOf (recordsFrom list (length list / 12) i) (toCover m at u)))
 
-module _ (m : Machine) (list before : List ℕ) (h : Covering m list before) where
+module _ {m : Machine} {list before : List ℕ} (h : Covering m list before) where
   pub off-start : Off m list before before 1 (getD (m .sizes) 1 0) 0
   off-start =
       record {
@@ -108,12 +108,12 @@ module _ (m : Machine) (list before : List ℕ) (h : Covering m list before) whe
       let c = choiceOf (recordsOf list) (endOf m) in
       omega (arith, length-bits c, length-choice (recordsOf list) c (h .covered), h .room)
 
-  pub off-end : (area : List ℕ) (at u i : ℕ) → Off m list before area at u i → length list / 12 ≤ i → area ≡ over (bitBytes (choiceOf (recordsOf list) (endOf m))) before
+  pub off-end : {area : List ℕ} {at u i : ℕ} → Off m list before area at u i → length list / 12 ≤ i → area ≡ over (bitBytes (choiceOf (recordsOf list) (endOf m))) before
   unfolding choiceOf
-  off-end area at u i o g =
+  off-end {area} {at} {u} {i} o g =
       filling-end (subst (λ (rs : List Record). Filling (bitBytes (choiceOf (recordsOf list) (endOf m))) before area i (bitBytes (choiceOf rs (toCover m at u)))) (recordsFrom-none list (length list / 12) i g) (o .filling))
 
-  module _ (area : List ℕ) (at u i : ℕ) (o : Off m list before area at u i) (g : i < length list / 12) where
+  module _ {area : List ℕ} {at u i : ℕ} (o : Off m list before area at u i) (g : i < length list / 12) where
     pub off-room : i < length area
     off-room = omega (arith, o .filling .same, h .room, length-recordsOf list)
 
@@ -143,8 +143,8 @@ module _ (m : Machine) (list before : List ℕ) (h : Covering m list before) whe
         ∙ ap (λ (b : Bit). b ∷ choiceOf rest-of (cut (sizeOf here) (itemOf (getD (m .kinds) at 0) u) (from (itemIn m) (at + 1) (m .left - (at + 1))))) (bit-item (getD (m .kinds) at 0) u)
 
     module _ (at′ u′ : ℕ) (a : at′ ≤ i + 2) (e : cut (sizeOf here) (itemOf (getD (m .kinds) at 0) u) (from (itemIn m) (at + 1) (m .left - (at + 1))) ≡ toCover m at′ u′) where
-      off-next : (b : ℕ) → b ≡ bitByte (bitFor (itemOf (getD (m .kinds) at 0) 0)) → Off m list before (set area i b) at′ u′ (i + 1)
-      off-next b d =
+      off-next : {b : ℕ} → b ≡ bitByte (bitFor (itemOf (getD (m .kinds) at 0) 0)) → Off m list before (set area i b) at′ u′ (i + 1)
+      off-next {b} d =
           let c = choiceOf rest-of (toCover m at′ u′) in
           let is : choiceOf (recordsFrom list (length list / 12) i) (toCover m at u) ≡ bitFor (itemOf (getD (m .kinds) at 0) 0) ∷ c = opened ∙ ap (λ (l : List Item). bitFor (itemOf (getD (m .kinds) at 0) 0) ∷ choiceOf rest-of l) e in
           let v : IsChoice (recordsFrom list (length list / 12) i) (bitFor (itemOf (getD (m .kinds) at 0) 0) ∷ c) = rw is at (o .covered) in
@@ -158,7 +158,7 @@ module _ (m : Machine) (list before : List ℕ) (h : Covering m list before) whe
           }
 
     -- the record leaves some of the item uncovered
-    pub off-within : sizeOf here < u → (b : ℕ) → b ≡ bitByte (bitFor (itemOf (getD (m .kinds) at 0) 0)) → Off m list before (set area i b) at (u - sizeOf here) (i + 1)
+    pub off-within : sizeOf here < u → {b : ℕ} → b ≡ bitByte (bitFor (itemOf (getD (m .kinds) at 0) 0)) → Off m list before (set area i b) at (u - sizeOf here) (i + 1)
     off-within k =
         let s = size-item (getD (m .kinds) at 0) u in
         let e : cut (sizeOf here) (itemOf (getD (m .kinds) at 0) u) (from (itemIn m) (at + 1) (m .left - (at + 1))) ≡ toCover m at (u - sizeOf here) =
@@ -167,7 +167,7 @@ module _ (m : Machine) (list before : List ℕ) (h : Covering m list before) whe
         off-next at (u - sizeOf here) (omega (arith, o .at-most)) e
 
     -- the record ends the item
-    pub off-beyond : u ≤ sizeOf here → (b : ℕ) → b ≡ bitByte (bitFor (itemOf (getD (m .kinds) at 0) 0)) → Off m list before (set area i b) (at + 1) (getD (m .sizes) (at + 1) 0) (i + 1)
+    pub off-beyond : u ≤ sizeOf here → {b : ℕ} → b ≡ bitByte (bitFor (itemOf (getD (m .kinds) at 0) 0)) → Off m list before (set area i b) (at + 1) (getD (m .sizes) (at + 1) 0) (i + 1)
     off-beyond k =
         let s = size-item (getD (m .kinds) at 0) u in
         let e : cut (sizeOf here) (itemOf (getD (m .kinds) at 0) u) (from (itemIn m) (at + 1) (m .left - (at + 1))) ≡ toCover m (at + 1) (getD (m .sizes) (at + 1) 0) =

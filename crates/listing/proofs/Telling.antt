@@ -29,7 +29,7 @@ use Rattle.call_partition.specs.Partition.{Partitioned}
 use Rattle.report.specs.Text.{reportText}
 use Rattle.listing.specs.Program.{textFor, Roomy}
 
-module _ (price : Price) (list v st choice area block text : List ℕ) (roomy : Roomy list v choice area block text) where
+module _ (price : Price) (st : List ℕ) {list v choice area block text : List ℕ} (roomy : Roomy list v choice area block text) where
   ruling-is : partitionRuling price list v st (areas choice area block) ≡ findings price list v st
   ruling-is =
       findings-of-long price list v st (areas choice area block)

@@ -40,10 +40,10 @@ front-no-match (new s) l h = absurd h
 front-no-match (match s) l h = absurd h
 front-no-match (neither s) l h = refl
 
-module _ (rates : Rates) where
-  pub round-start : (m : Machine) → Runnable rates m → length (m .kinds) ≡ 4098 → length (m .sizes) ≡ 4098 → Round rates (rightOf m) m 0
+module _ {rates : Rates} where
+  pub round-start : {m : Machine} → Runnable rates m → length (m .kinds) ≡ 4098 → length (m .sizes) ≡ 4098 → Round rates (rightOf m) m 0
   unfolding pass
-  round-start m h hk hs =
+  round-start {m} h hk hs =
       let n = 2 * length (rightOf m) in
       let all : n - 0 ≡ n = omega arith in
       let f = h .loaded .front in
@@ -63,7 +63,7 @@ module _ (rates : Rates) where
         looks-same = rw (f, all) (omega arith);
       }
 
-  module _ (xs : List Item) (m : Machine) (looks : ℕ) (h : Round rates xs m looks) where
+  module _ {xs : List Item} {m : Machine} {looks : ℕ} (h : Round rates xs m looks) where
     module _ (g : m .right < 4097) where
       opened : rightOf m ≡ itemIn m (m .right) ∷ afterOf m
       opened = fromPlace-next (m .kinds) (m .sizes) (m .right) g
@@ -85,8 +85,8 @@ module _ (rates : Rates) where
             fits = h .fits;
           }
 
-      pub round-next : (s : Step) → Looked rates m s → Round rates xs (leftBy s) (looks + s .looks)
-      round-next s v =
+      pub round-next : {s : Step} → Looked rates m s → Round rates xs (leftBy s) (looks + s .looks)
+      round-next {s} v =
           let t = testsOf rates in
           let f = 2 * length xs - looks in
           let p = itemIn m (m .right) in
@@ -111,8 +111,8 @@ module _ (rates : Rates) where
             looks-same = rw (l, r, less) (h .looks-same ∙ ap (λ (x : Run). looks + length (x .outcomes)) u ∙ omega (arith, v .one));
           }
 
-    pub round-end : 4097 ≤ m .right → (r : Passed) → r .looks ≡ looks → r .list ≡ m → Ran rates xs r
-    round-end g r a b =
+    pub round-end : 4097 ≤ m .right → {r : Passed} → r .looks ≡ looks → r .list ≡ m → Ran rates xs r
+    round-end g {r} a b =
         let none : rightOf m ≡ [] = fromPlace-none (m .kinds) (m .sizes) (m .right) g in
         let u : run (testsOf rates) (2 * length xs - looks) (leftOf m) (rightOf m) ≡ stopped (leftOf m) [] =
         ap (run (testsOf rates) (2 * length xs - looks) (leftOf m)) none ∙ run-rear (testsOf rates) (2 * length xs - looks) (leftOf m) in

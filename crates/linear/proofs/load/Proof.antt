@@ -15,7 +15,7 @@ abbrev μ-loop : tie.MeasureT-loop
 μ-loop list n kinds₀ sizes₀ i₀ right₀ kinds sizes i right = i
 
 loop-holds : tie.Need-loop-holds Inv-loop μ-loop
-loop-holds c = laid-start (c .before .args .list .now) (omega arith)
+loop-holds c = laid-start (omega arith)
 
 sub-i : tie.Need-sub-i Inv-loop μ-loop
 sub-i c = search needs
@@ -43,9 +43,7 @@ array-read-sizes c = omega (arith, c .before .before .before .before .before .be
 
 add-sizes : tie.Need-add-sizes Inv-loop μ-loop
 add-sizes c =
-    let g = c .before .before .before .before .before .before .before .before .args in
-    let l = c .before .before .before .before .before .before .loop in
-    omega (arith, joined-most (g .list .now) (l .inv) (omega arith) (c .before .before .before .before .record-at .ensures) (c .before .before .before .kind-of .ensures) (c .before .before .size-of .ensures) (c .before .joins-next .ensures) (c .if1 .taken) (c .before .before .before .before .before .before .before .before .pre .1))
+    omega (arith, joined-most (c .before .before .before .before .before .before .loop .inv) (omega arith) (c .before .before .before .before .record-at .ensures) (c .before .before .before .kind-of .ensures) (c .before .before .size-of .ensures) (c .before .joins-next .ensures) (c .if1 .taken) (c .before .before .before .before .before .before .before .before .pre .1))
 
 mul-sizes-2 : tie.Need-mul-sizes-2 Inv-loop μ-loop
 mul-sizes-2 c = omega (arith, c .before .before .before .before .before .before .loop .inv .within)
@@ -57,10 +55,7 @@ loop-less : tie.Need-loop-less Inv-loop μ-loop
 loop-less c = search needs
 
 loop-again : tie.Need-loop-again Inv-loop μ-loop
-loop-again c =
-    let g = c .before .before .before .before .before .before .before .before .args in
-    let l = c .before .before .before .before .before .before .loop in
-    laid-joined (g .list .now) (l .inv) (omega arith) (c .before .before .before .before .record-at .ensures) (c .before .before .before .kind-of .ensures) (c .before .before .size-of .ensures) (c .before .joins-next .ensures) (c .if1 .taken)
+loop-again c = laid-joined (c .before .before .before .before .before .before .loop .inv) (omega arith) (c .before .before .before .before .record-at .ensures) (c .before .before .before .kind-of .ensures) (c .before .before .size-of .ensures) (c .before .joins-next .ensures) (c .if1 .taken)
 
 sub-right : tie.Need-sub-right Inv-loop μ-loop
 sub-right c = omega (arith, c .before .before .before .before .before .before .loop .inv .placed, c .before .before .before .before .before .before .loop .inv .few)
@@ -78,17 +73,13 @@ loop-less-2 : tie.Need-loop-less-2 Inv-loop μ-loop
 loop-less-2 c = search needs
 
 loop-again-2 : tie.Need-loop-again-2 Inv-loop μ-loop
-loop-again-2 c =
-    let g = c .before .before .before .before .before .before .before .before .args in
-    let l = c .before .before .before .before .before .before .loop in
-    laid-apart (g .list .now) (l .inv) (omega arith) (c .before .before .before .before .record-at .ensures) (c .before .before .before .kind-of .ensures) (c .before .before .size-of .ensures) (c .before .joins-next .ensures) (c .if1 .left)
+loop-again-2 c = laid-apart (c .before .before .before .before .before .before .loop .inv) (omega arith) (c .before .before .before .before .record-at .ensures) (c .before .before .before .kind-of .ensures) (c .before .before .size-of .ensures) (c .before .joins-next .ensures) (c .if1 .left)
 
 returns : tie.Need-returns Inv-loop μ-loop
 returns c =
-    let g = c .before .before .before .args in
     let l = c .before .loop in
     let none : l .i ≡ 0 = omega arith in
-    loaded-of-laid (g .list .now) (l .kinds) (l .sizes) (l .right) (subst (λ (i : ℕ). Laid (g .list .now) (l .kinds) (l .sizes) i (l .right)) none (l .inv)) _ refl
+    loaded-of-laid (subst (λ (i : ℕ). Laid (c .before .before .before .args .list .now) (l .kinds) (l .sizes) i (l .right)) none (l .inv)) refl
 
 pub load-spec : {M : Type 1} → statement M
 load-spec =

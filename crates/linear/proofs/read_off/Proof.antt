@@ -20,7 +20,7 @@ element-copy-out-uncovered : tie.Need-element-copy-out-uncovered Inv-loop μ-loo
 element-copy-out-uncovered c = search needs
 
 loop-holds : tie.Need-loop-holds Inv-loop μ-loop
-loop-holds c = off-start (c .before .before .before .args .t1) (c .before .before .before .args .list .now) (c .before .before .before .args .choice .now) (c .before .before .before .pre)
+loop-holds c = off-start (c .before .before .before .pre)
 
 record-at-requires : tie.Need-record-at-requires Inv-loop μ-loop
 record-at-requires c κs = search needs
@@ -35,10 +35,7 @@ bit-of-requires : tie.Need-bit-of-requires Inv-loop μ-loop
 bit-of-requires c κs = search needs
 
 slice-write-choice : tie.Need-slice-write-choice Inv-loop μ-loop
-slice-write-choice c =
-    let g = c .before .before .before .before .before .before .before .before .before .args in
-    let l = c .before .before .before .before .before .loop in
-    off-room (g .t1) (g .list .now) (g .choice .now) (c .before .before .before .before .before .before .before .before .before .pre) (l .choice) (l .at) (l .uncovered) (l .i) (l .inv) (omega arith)
+slice-write-choice c = off-room (c .before .before .before .before .before .before .before .before .before .pre) (c .before .before .before .before .before .loop .inv) (omega arith)
 
 add-i : tie.Need-add-i Inv-loop μ-loop
 add-i c = search needs
@@ -49,13 +46,14 @@ sub-uncovered c = search needs
 loop-less : tie.Need-loop-less Inv-loop μ-loop
 loop-less c = search needs
 
+-- the size of the record at hand
+sized : (s : tie.After-size-of Inv-loop μ-loop) → s .size-of .result ≡ sizeOf (recordOf (rowAt (s .before .before .before .before .before .before .before .args .list .now) (s .before .before .before .loop .i)))
+sized s = s .size-of .ensures ∙ ap sizeOf (s .before .record-at .ensures)
+
 loop-again : tie.Need-loop-again Inv-loop μ-loop
 loop-again c =
-    let g = c .before .before .before .before .before .before .before .before .before .before .args in
-    let l = c .before .before .before .before .before .before .loop in
-    let is : c .before .before .before .before .record-at .result ≡ recordOf (rowAt (g .list .now) (l .i)) = c .before .before .before .before .record-at .ensures in
-    let size : c .before .before .before .size-of .result ≡ sizeOf (recordOf (rowAt (g .list .now) (l .i))) = c .before .before .before .size-of .ensures ∙ ap sizeOf is in
-    rw size (off-within (g .t1) (g .list .now) (g .choice .now) (c .before .before .before .before .before .before .before .before .before .before .pre) (l .choice) (l .at) (l .uncovered) (l .i) (l .inv) (omega arith) (omega (arith, size)) (c .before .bit-of .result) (c .before .bit-of .ensures))
+    let size = sized (c .before .before .before) in
+    rw size (off-within (c .before .before .before .before .before .before .before .before .before .before .pre) (c .before .before .before .before .before .before .loop .inv) (omega arith) (omega (arith, size)) (c .before .bit-of .ensures))
 
 add-at : tie.Need-add-at Inv-loop μ-loop
 add-at c = omega (arith, c .before .before .before .before .before .before .loop .inv .at-most, c .before .before .before .before .before .before .before .before .before .before .pre .list-most)
@@ -71,20 +69,14 @@ loop-less-2 c = search needs
 
 loop-again-2 : tie.Need-loop-again-2 Inv-loop μ-loop
 loop-again-2 c =
-    let g = c .before .before .before .before .before .before .before .before .before .before .before .args in
-    let l = c .before .before .before .before .before .before .before .loop in
-    let is : c .before .before .before .before .before .record-at .result ≡ recordOf (rowAt (g .list .now) (l .i)) = c .before .before .before .before .before .record-at .ensures in
-    let size : c .before .before .before .before .size-of .result ≡ sizeOf (recordOf (rowAt (g .list .now) (l .i))) = c .before .before .before .before .size-of .ensures ∙ ap sizeOf is in
-    off-beyond (g .t1) (g .list .now) (g .choice .now) (c .before .before .before .before .before .before .before .before .before .before .before .pre) (l .choice) (l .at) (l .uncovered) (l .i) (l .inv) (omega arith) (omega (arith, size)) (c .before .before .bit-of .result) (c .before .before .bit-of .ensures)
+    let size = sized (c .before .before .before .before) in
+    off-beyond (c .before .before .before .before .before .before .before .before .before .before .before .pre) (c .before .before .before .before .before .before .before .loop .inv) (omega arith) (omega (arith, size)) (c .before .before .bit-of .ensures)
 
 same-length : tie.Need-same-length Inv-loop μ-loop
 same-length c = c .before .loop .inv .filling .same
 
 returns : tie.Need-returns Inv-loop μ-loop
-returns c =
-    let g = c .before .before .before .before .before .args in
-    let l = c .before .loop in
-    off-end (g .t1) (g .list .now) (g .choice .now) (c .before .before .before .before .before .pre) (l .choice) (l .at) (l .uncovered) (l .i) (l .inv) (omega arith)
+returns c = off-end (c .before .before .before .before .before .pre) (c .before .loop .inv) (omega arith)
 
 pub read-off-spec : {M : Type 1} → statement M
 read-off-spec =

@@ -35,20 +35,18 @@ part-report-start c = search needs
 
 part-report-end : tie.Need-part-report-end
 part-report-end c =
-    let start = c .before .before .before .before .before .before .before .before .before .before .before .before .before .before .before .before .before .before .before .before .before .before .before in
-    let g = start .args in
-    let made = partitioned (g .price) (g .list .now) (g .version .now) (g .store .now) (areas (g .choice .now) (g .list-area .now) (g .block-area .now)) (c .before .before .before .before .before .before .before .before .before .before .before .before .partition .ensures) in
-    let said = c .before .before .before .before .answer2 .given .1 in
+    let s = c .before .before .before .before .before .before .before .before .before .before .before .before .before .before .before .before .before .before .before .before .before .before .before in
+    let g = s .args in
     let n-is = c .before .before .index .ensures .0 in
-    omega (arith, n-is, list-in-area (g .price) (g .list .now) (g .version .now) (g .store .now) (g .choice .now) (g .list-area .now) (g .block-area .now) (g .text .now) (start .pre) made said (12 * c .before .before .index .result) (ap (λ (k : ℕ). 12 * k) n-is))
+    let made = partitioned (g .price) (g .list .now) (g .version .now) (g .store .now) (areas (g .choice .now) (g .list-area .now) (g .block-area .now)) (c .before .before .before .before .before .before .before .before .before .before .before .before .partition .ensures) in
+    omega (arith, n-is, list-in-area (g .price) (g .store .now) (s .pre) made (c .before .before .before .before .answer2 .given .1) (12 * c .before .before .index .result) (ap (λ (k : ℕ). 12 * k) n-is))
 
 report-requires : tie.Need-report-requires
 report-requires c κs =
-    let start = c .before .before .before .before .before .before .before .before .before .before .before .before .before .before .before .before .before .before .before .before .before .before .before .before in
-    let g = start .args in
+    let s = c .before .before .before .before .before .before .before .before .before .before .before .before .before .before .before .before .before .before .before .before .before .before .before .before in
+    let g = s .args in
     let made = partitioned (g .price) (g .list .now) (g .version .now) (g .store .now) (areas (g .choice .now) (g .list-area .now) (g .block-area .now)) (c .before .before .before .before .before .before .before .before .before .before .before .before .before .partition .ensures) in
-    let said = c .before .before .before .before .before .answer2 .given .1 in
-    text-room (g .price) (g .list .now) (g .version .now) (g .store .now) (g .choice .now) (g .list-area .now) (g .block-area .now) (g .text .now) (start .pre) made said (12 * c .before .before .before .index .result - 0) (omega (arith, c .before .before .before .index .ensures .0))
+    text-room (g .price) (g .store .now) (s .pre) made (c .before .before .before .before .before .answer2 .given .1) (12 * c .before .before .before .index .result - 0) (omega (arith, c .before .before .before .index .ensures .0))
 
 same-length : tie.Need-same-length
 same-length c = search needs
@@ -64,11 +62,10 @@ same-length-4 c = search needs
 
 returns : tie.Need-returns
 returns c =
-    let start = c .before .before .before .before .before .before .before .before .before .before .before .before .before .before .before .before .before .before .before .before .before .before .before .before in
-    let g = start .args in
+    let s = c .before .before .before .before .before .before .before .before .before .before .before .before .before .before .before .before .before .before .before .before .before .before .before .before in
+    let g = s .args in
     let made = partitioned (g .price) (g .list .now) (g .version .now) (g .store .now) (areas (g .choice .now) (g .list-area .now) (g .block-area .now)) (c .before .before .before .before .before .before .before .before .before .before .before .before .before .partition .ensures) in
-    let said = c .before .before .before .before .before .answer .given .1 in
-    rw (stop-of-answer (g .price) (g .list .now) (g .version .now) (g .store .now) (g .choice .now) (g .list-area .now) (g .block-area .now) (g .text .now) (start .pre) made said) (c .before .before .refusal .ensures)
+    rw (stop-of-answer (g .price) (g .store .now) (s .pre) made (c .before .before .before .before .before .answer .given .1)) (c .before .before .refusal .ensures)
 
 same-length-5 : tie.Need-same-length-5
 same-length-5 c = search needs
@@ -84,12 +81,10 @@ same-length-8 c = search needs
 
 returns-2 : tie.Need-returns-2
 returns-2 c =
-    let start = c .before .before .before .before .before .before .before .before .before .before .before .before .before .before .before .before .before .before .before .before .before .before .before .before .before .before .before in
-    let g = start .args in
+    let s = c .before .before .before .before .before .before .before .before .before .before .before .before .before .before .before .before .before .before .before .before .before .before .before .before .before .before .before in
+    let g = s .args in
     let made = partitioned (g .price) (g .list .now) (g .version .now) (g .store .now) (areas (g .choice .now) (g .list-area .now) (g .block-area .now)) (c .before .before .before .before .before .before .before .before .before .before .before .before .before .before .before .before .partition .ensures) in
-    let said = c .before .before .before .before .before .before .before .before .answer2 .given .1 in
-    let n = 12 * c .before .before .before .before .before .before .index .result - 0 in
-    rw (text-listed (g .price) (g .list .now) (g .version .now) (g .store .now) (g .choice .now) (g .list-area .now) (g .block-area .now) (g .text .now) (start .pre) made (g .y) said n (omega (arith, c .before .before .before .before .before .before .index .ensures .0))) (c .before .before .report .ensures)
+    rw (text-listed (g .price) (g .store .now) (s .pre) made (g .y) (c .before .before .before .before .before .before .before .before .answer2 .given .1) (12 * c .before .before .before .before .before .before .index .result - 0) (omega (arith, c .before .before .before .before .before .before .index .ensures .0))) (c .before .before .report .ensures)
 
 pub listed-spec : {M : Type 1} → statement M
 listed-spec =

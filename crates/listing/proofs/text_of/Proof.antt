@@ -35,11 +35,10 @@ same-length-4 c = search needs
 
 returns : tie.Need-returns
 returns c =
-    let start = c .before .before .before .before .before .before .before .before .before .before .before .before .before .before .before .before .before .before .before .before .before .before .before .before in
-    let g = start .args in
+    let s = c .before .before .before .before .before .before .before .before .before .before .before .before .before .before .before .before .before .before .before .before .before .before .before .before in
+    let g = s .args in
     let made = pass-made (g .price) (g .list .now) (g .version .now) (g .store .now) (areas (g .choice .now) (g .list-area .now) (g .block-area .now)) (c .before .before .before .before .before .before .before .before .before .before .before .before .before .pass .ensures) .decided in
-    let said = c .before .before .before .before .before .answer .given .1 in
-    rw (stop-of-answer (g .price) (g .list .now) (g .version .now) (g .store .now) (g .choice .now) (g .list-area .now) (g .block-area .now) (g .text .now) (start .pre) made said) (c .before .before .refusal .ensures)
+    rw (stop-of-answer (g .price) (g .store .now) (s .pre) made (c .before .before .before .before .before .answer .given .1)) (c .before .before .refusal .ensures)
 
 same-length-5 : tie.Need-same-length-5
 same-length-5 c = search needs
@@ -55,11 +54,10 @@ same-length-8 c = search needs
 
 returns-2 : tie.Need-returns-2
 returns-2 c =
-    let start = c .before .before .before .before .before .before .before .before .before .before .before .before .before .before .before .before .before .before .before .before .before .before .before .before .before .before .before .before .before .before .before .before .before in
-    let g = start .args in
+    let s = c .before .before .before .before .before .before .before .before .before .before .before .before .before .before .before .before .before .before .before .before .before .before .before .before .before .before .before .before .before .before .before .before .before in
+    let g = s .args in
     let made = pass-made (g .price) (g .list .now) (g .version .now) (g .store .now) (areas (g .choice .now) (g .list-area .now) (g .block-area .now)) (c .before .before .before .before .before .before .before .before .before .before .before .before .before .before .before .before .before .before .before .before .before .before .pass .ensures) .decided in
-    let said = c .before .before .before .before .before .before .before .before .before .before .before .before .before .before .answer2 .given .1 in
-    rw (figures-of-answer (g .price) (g .list .now) (g .version .now) (g .store .now) (g .choice .now) (g .list-area .now) (g .block-area .now) (g .text .now) (start .pre) made said) at (c .before .before .before .before .before .before .before .before .listed .ensures)
+    rw (figures-of-answer (g .price) (g .store .now) (s .pre) made (c .before .before .before .before .before .before .before .before .before .before .before .before .before .before .answer2 .given .1)) at (c .before .before .before .before .before .before .before .before .listed .ensures)
 
 pub text-of-spec : {M : Type 1} → statement M
 text-of-spec =

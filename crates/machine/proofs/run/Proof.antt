@@ -18,19 +18,15 @@ abbrev μ-loop : tie.MeasureT-loop
 μ-loop rates list₀ looks₀ list looks = 2 * length (rightOf list₀) - looks
 
 loop-holds : tie.Need-loop-holds Inv-loop μ-loop
-loop-holds c = round-start (c .args .rates) (c .args .machine) (c .pre) (search needs) (search needs)
+loop-holds c = round-start (c .pre) (search needs) (search needs)
 
 look-requires : tie.Need-look-requires Inv-loop μ-loop
-look-requires c κs =
-    let u = c .before .before in
-    let l = c .before .loop in
-    ready-of-round (u .args .rates) (rightOf (u .args .machine)) (l .list) (l .looks) (l .inv) (omega arith) (u .pre .rates-fit)
+look-requires c κs = ready-of-round (c .before .loop .inv) (omega arith) (c .before .before .pre .rates-fit)
 
 add-looks : tie.Need-add-looks Inv-loop μ-loop
 add-looks c =
-    let g = c .before .before .before .before .before .args in
-    let l = c .before .before .before .before .loop in
-    omega (arith, c .before .before .look .ensures .one, l .inv .few, looks-left (g .rates) (rightOf (g .machine)) (l .list) (l .looks) (l .inv) (omega arith))
+    let h = c .before .before .before .before .loop .inv in
+    omega (arith, c .before .before .look .ensures .one, h .few, looks-left h (omega arith))
 
 element-write-list : tie.Need-element-write-list Inv-loop μ-loop
 element-write-list c = omega (arith, ap (λ (m : Machine). m .right) (c .before .before .before .look .ensures .same))
@@ -51,23 +47,13 @@ element-write-list-4 : tie.Need-element-write-list-4 Inv-loop μ-loop
 element-write-list-4 c = search needs
 
 loop-less : tie.Need-loop-less Inv-loop μ-loop
-loop-less c =
-    let g = c .before .before .before .before .before .before .args in
-    let l = c .before .before .before .before .before .loop in
-    omega (arith, c .before .before .before .look .ensures .one, looks-left (g .rates) (rightOf (g .machine)) (l .list) (l .looks) (l .inv) (omega arith))
+loop-less c = omega (arith, c .before .before .before .look .ensures .one, looks-left (c .before .before .before .before .before .loop .inv) (omega arith))
 
 loop-again : tie.Need-loop-again Inv-loop μ-loop
-loop-again c =
-    let g = c .before .before .before .before .before .before .args in
-    let l = c .before .before .before .before .before .loop in
-    let k = c .before .before .before .look in
-    round-next (g .rates) (rightOf (g .machine)) (l .list) (l .looks) (l .inv) (omega arith) (k .result) (k .ensures)
+loop-again c = round-next (c .before .before .before .before .before .loop .inv) (omega arith) (c .before .before .before .look .ensures)
 
 returns : tie.Need-returns Inv-loop μ-loop
-returns c =
-    let g = c .before .before .args in
-    let l = c .before .loop in
-    round-end (g .rates) (rightOf (g .machine)) (l .list) (l .looks) (l .inv) (omega arith) _ refl refl
+returns c = round-end (c .before .loop .inv) (omega arith) refl refl
 
 pub run-spec : {M : Type 1} → statement M
 run-spec =
