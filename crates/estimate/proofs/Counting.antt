@@ -7,11 +7,10 @@ use mathlib.Core.Bool.{cond}
 use mathlib.Core.List.{List, [], _∷_}
 use lib.ListN.{length}
 use Rattle.format.specs.declared.Record.{Record}
-use Rattle.format.specs.declared.Record.the-variants.{New, Match}
 use Rattle.format.specs.Limits.{versionMost}
 use Rattle.format.specs.Record.{rowAt, recordOf, recordsOf}
 use Rattle.format.specs.Meaning.{stored}
-use Rattle.format.proofs.Rows.{length-from, length-recordsOf}
+use Rattle.format.proofs.Rows.{stored-cons, length-from, length-recordsOf}
 use Rattle.format.proofs.Rebuilding.{stored-most}
 use Rattle.join.specs.declared.Open.{Open}
 use Rattle.join.specs.declared.Open.the-variants.{No, One}
@@ -23,10 +22,6 @@ use Rattle.choice.proofs.Lists.{length-list, whole-list}
 use Rattle.writer.specs.Write.{listIn, chosenFrom}
 use Rattle.writer.proofs.Writing.{chosenFrom-all, chosenFrom-none, chosenFrom-next}
 use Rattle.estimate.specs.Count.{CountReady, CountsOf}
-
-stored-cons : (r : Record) (l : List Record) → stored (r ∷ l) ≡ stored (r ∷ []) + stored l
-stored-cons (New s) l = omega arith
-stored-cons (Match s a) l = omega arith
 
 -- before record i of n, after the record o: what is counted, and what is to come
 pub record Counting (list choice : List ℕ) (n i : ℕ) (o : Open) (e s : ℕ) : Type 0 where

@@ -22,7 +22,7 @@ pub record Copied (list block st area₀ area : List ℕ) (n i used out : ℕ) :
   pub used-is : used + stored (recordsFrom list n i) ≡ length block
   pub filling : Filling (rebuilt (recordsOf list) block st) area₀ area out (rebuilt (recordsFrom list n i) (drop used block) st)
 
-module _ (list block st area₀ : List ℕ) (ready : Ready list block st area₀) where
+module _ {list block st area₀ : List ℕ} (ready : Ready list block st area₀) where
   room : length (rebuilt (recordsOf list) block st) ≤ length area₀
   room = omega (arith, ready .room, ready .block-fits, length-rebuilt (recordsOf list) block st (ready .inside) (omega (arith, ready .block-fits)))
 
@@ -35,12 +35,12 @@ module _ (list block st area₀ : List ℕ) (ready : Ready list block st area₀
         filling = rw (← e) (filling-start (rebuilt (recordsOf list) block st) area₀);
       }
 
-  module _ (area : List ℕ) (n i used out : ℕ) (c : Copied list block st area₀ area n i used out) where
+  module _ {area : List ℕ} {n i used out : ℕ} (c : Copied list block st area₀ area n i used out) where
     pub copied-end : n ≤ i → area ≡ filled list block st area₀
     copied-end h = filling-end (rw (recordsFrom-none list n i h) at (c .filling))
 
     -- r is record i
-    module _ (r : Record) (is : r ≡ recordOf (rowAt list i)) (h : i < n) where
+    module _ {r : Record} (is : r ≡ recordOf (rowAt list i)) (h : i < n) where
       split : recordsFrom list n i ≡ r ∷ recordsFrom list n (i + 1)
       split = recordsFrom-next list n i h ∙ ap (λ (x : Record). x ∷ recordsFrom list n (i + 1)) (sym is)
 
@@ -50,18 +50,19 @@ module _ (list block st area₀ : List ℕ) (ready : Ready list block st area₀
       pub copied-part : Lies (partOf used r) block st
       copied-part = lies-first r (recordsFrom list n (i + 1)) block st used (rw split at (c .inside)) (rw split at (c .used-is))
 
-      pub copied-room : out + length (bytesIn block st (partOf used r)) ≤ length area
-      copied-room =
-          omega (arith, filling-room to-come room, length-append (bytesIn block st (partOf used r)) (rebuilt (recordsFrom list n (i + 1)) (drop (used + stored (r ∷ [])) block) st))
+      -- whose bytes are p
+      module _ {p : List ℕ} (p-is : p ≡ bytesIn block st (partOf used r)) where
+        pub copied-room : out + length p ≤ length area
+        copied-room =
+            omega (arith, ap length p-is, filling-room to-come room, length-append (bytesIn block st (partOf used r)) (rebuilt (recordsFrom list n (i + 1)) (drop (used + stored (r ∷ [])) block) st))
+
+        pub copied-next : {area′ : List ℕ} {out′ used′ : ℕ} → area′ ≡ pasted out p area → out′ ≡ out + length p → used′ ≡ used + stored (r ∷ []) → Copied list block st area₀ area′ n (i + 1) used′ out′
+        copied-next {area′} {out′} {used′} e f g =
+            record {
+              inside = inside-rest r (recordsFrom list n (i + 1)) st (rw split at (c .inside));
+              used-is = omega (arith, g, c .used-is, ap stored split, stored-cons r (recordsFrom list n (i + 1)));
+              filling = rw g (filling-put p (rebuilt (recordsFrom list n (i + 1)) (drop (used + stored (r ∷ [])) block) st) (rw p-is to-come) room area′ out′ e f);
+            }
 
       pub copied-used : used + stored (r ∷ []) ≤ length block
       copied-used = omega (arith, c .used-is, ap stored split, stored-cons r (recordsFrom list n (i + 1)))
-
-      pub copied-next : (area′ : List ℕ) (out′ used′ : ℕ) → area′ ≡ pasted out (bytesIn block st (partOf used r)) area
-          → out′ ≡ out + length (bytesIn block st (partOf used r)) → used′ ≡ used + stored (r ∷ []) → Copied list block st area₀ area′ n (i + 1) used′ out′
-      copied-next area′ out′ used′ e f g =
-          record {
-            inside = inside-rest r (recordsFrom list n (i + 1)) st (rw split at (c .inside));
-            used-is = omega (arith, g, c .used-is, ap stored split, stored-cons r (recordsFrom list n (i + 1)));
-            filling = rw g (filling-put (bytesIn block st (partOf used r)) (rebuilt (recordsFrom list n (i + 1)) (drop (used + stored (r ∷ [])) block) st) to-come room area′ out′ e f);
-          }

@@ -75,66 +75,64 @@ pub record Storing (list v block₀ block : List ℕ) (n i at out fresh : ℕ) :
   pub counted : news (recordsOf list) ≡ fresh + news (recordsFrom list n i)
   pub few : fresh ≤ i
 
-module _ (list v block₀ : List ℕ) (ready : BlockReady list v block₀) where
-  pub storing-start : Storing list v block₀ block₀ (length list / 12) 0 0 0 0
-  storing-start =
-      record {
-        filling = rw (← recordsFrom-all list) (filling-start (blockOf (recordsOf list) v) block₀);
-        sizes = omega (arith, ready .in-version, ap whole (recordsFrom-all list));
-        counted = omega (arith, ap news (recordsFrom-all list));
-        few = omega arith;
-      }
+pub storing-start : {list v block₀ : List ℕ} → BlockReady list v block₀ → Storing list v block₀ block₀ (length list / 12) 0 0 0 0
+storing-start {list} {v} {block₀} ready =
+    record {
+      filling = rw (← recordsFrom-all list) (filling-start (blockOf (recordsOf list) v) block₀);
+      sizes = omega (arith, ready .in-version, ap whole (recordsFrom-all list));
+      counted = omega (arith, ap news (recordsFrom-all list));
+      few = omega arith;
+    }
 
-  module _ (block : List ℕ) (n i at out fresh : ℕ) (g : Storing list v block₀ block n i at out fresh) where
-    pub storing-end : n ≤ i → BlockWritten list v block₀ block (record { bytes = out; fresh = fresh })
-    storing-end h =
-        let ended : recordsFrom list n i ≡ [] = recordsFrom-none list n i h in
-        let done : Filling (blockOf (recordsOf list) v) block₀ block out [] = rw ended at (g .filling) in
-        record { area-after = filling-end done; length-is = filling-out done; fresh-is = omega (arith, g .counted, ap news ended) }
+module _ {list v block₀ block : List ℕ} {n i at out fresh : ℕ} (g : Storing list v block₀ block n i at out fresh) where
+  pub storing-end : n ≤ i → BlockWritten list v block₀ block (record { bytes = out; fresh = fresh })
+  storing-end h =
+      let ended : recordsFrom list n i ≡ [] = recordsFrom-none list n i h in
+      let done : Filling (blockOf (recordsOf list) v) block₀ block out [] = rw ended at (g .filling) in
+      record { area-after = filling-end done; length-is = filling-out done; fresh-is = omega (arith, g .counted, ap news ended) }
 
-    module _ (r : Record) (is : r ≡ recordOf (rowAt list i)) (h : i < n) where
-      next : recordsFrom list n i ≡ r ∷ recordsFrom list n (i + 1)
-      next = rw is (recordsFrom-next list n i h)
+  module _ {r : Record} (is : r ≡ recordOf (rowAt list i)) (h : i < n) where
+    next : recordsFrom list n i ≡ r ∷ recordsFrom list n (i + 1)
+    next = rw is (recordsFrom-next list n i h)
 
-      pub storing-size : at + sizeOf r ≤ length v
-      storing-size = omega (arith, g .sizes, ap whole next)
+    pub storing-size : at + sizeOf r ≤ length v
+    storing-size = omega (arith, g .sizes, ap whole next)
 
-      pub storing-match : (s : ℕ) (a : Source) (at′ : ℕ) → r ≡ Match s a → at′ ≡ at + sizeOf r → Storing list v block₀ block n (i + 1) at′ out fresh
-      storing-match s a at′ m e =
-          let f : at′ ≡ at + s = e ∙ ap (λ (x : Record). at + sizeOf x) m in
-          let k : recordsFrom list n i ≡ Match s a ∷ recordsFrom list n (i + 1) = next ∙ ap (λ (x : Record). x ∷ recordsFrom list n (i + 1)) m in
+    pub storing-match : {s : ℕ} {a : Source} {at′ : ℕ} → r ≡ Match s a → at′ ≡ at + sizeOf r → Storing list v block₀ block n (i + 1) at′ out fresh
+    storing-match {s} {a} {at′} m e =
+        let f : at′ ≡ at + s = e ∙ ap (λ (x : Record). at + sizeOf x) m in
+        let k : recordsFrom list n i ≡ Match s a ∷ recordsFrom list n (i + 1) = next ∙ ap (λ (x : Record). x ∷ recordsFrom list n (i + 1)) m in
+        record {
+          filling = rw (f, ← drop-drop s at v) (rw k at (g .filling));
+          sizes = omega (arith, g .sizes, ap whole k);
+          counted = omega (arith, g .counted, ap news k);
+          few = omega (arith, g .few);
+        }
+
+    -- a new record, whose bytes are p
+    module _ {s : ℕ} (m : r ≡ New s) {p : List ℕ} (p-is : p ≡ take s (drop at v)) (room : length (blockOf (recordsOf list) v) ≤ length block₀) where
+      next-new : recordsFrom list n i ≡ New s ∷ recordsFrom list n (i + 1)
+      next-new = next ∙ ap (λ (x : Record). x ∷ recordsFrom list n (i + 1)) m
+
+      part-length : length p ≡ s
+      part-length = ap length p-is ∙ length-take-le s (drop at v) (omega (arith, length-drop at v, storing-size, ap sizeOf m))
+
+      to-store : Filling (blockOf (recordsOf list) v) block₀ block out (p ++ blockOf (recordsFrom list n (i + 1)) (drop (at + s) v))
+      to-store = rw (p-is, ← drop-drop s at v) (rw next-new at (g .filling))
+
+      pub storing-room : out + length p ≤ length block
+      storing-room = omega (arith, filling-room to-store room, length-append p (blockOf (recordsFrom list n (i + 1)) (drop (at + s) v)))
+
+      pub storing-new : {block′ : List ℕ} {at′ out′ : ℕ} → block′ ≡ pasted out p block → at′ ≡ at + sizeOf r → out′ ≡ out + length p
+          → Storing list v block₀ block′ n (i + 1) at′ out′ (fresh + 1)
+      storing-new {block′} {at′} {out′} e f k =
+          let f′ : at′ ≡ at + s = f ∙ ap (λ (x : Record). at + sizeOf x) m in
           record {
-            filling = rw (f, ← drop-drop s at v) (rw k at (g .filling));
-            sizes = omega (arith, g .sizes, ap whole k);
-            counted = omega (arith, g .counted, ap news k);
+            filling = rw f′ (filling-put p (blockOf (recordsFrom list n (i + 1)) (drop (at + s) v)) to-store room block′ out′ e k);
+            sizes = omega (arith, g .sizes, ap whole next-new);
+            counted = omega (arith, g .counted, ap news next-new);
             few = omega (arith, g .few);
           }
-
-      module _ (s : ℕ) (m : r ≡ New s) where
-        next-new : recordsFrom list n i ≡ New s ∷ recordsFrom list n (i + 1)
-        next-new = next ∙ ap (λ (x : Record). x ∷ recordsFrom list n (i + 1)) m
-
-        pub part-length : length (take s (drop at v)) ≡ s
-        part-length = length-take-le s (drop at v) (omega (arith, length-drop at v, storing-size, ap sizeOf m))
-
-        to-store : Filling (blockOf (recordsOf list) v) block₀ block out (take s (drop at v) ++ blockOf (recordsFrom list n (i + 1)) (drop (at + s) v))
-        to-store = rw (← drop-drop s at v) (rw next-new at (g .filling))
-
-        pub storing-room : out + s ≤ length block
-        storing-room = omega (arith, filling-room to-store (ready .room), length-append (take s (drop at v)) (blockOf (recordsFrom list n (i + 1)) (drop (at + s) v)), part-length)
-
-        pub storing-new : (block′ p : List ℕ) (at′ out′ : ℕ) → p ≡ take s (drop at v) → block′ ≡ pasted out p block → at′ ≡ at + sizeOf r → out′ ≡ out + length p
-            → Storing list v block₀ block′ n (i + 1) at′ out′ (fresh + 1)
-        storing-new block′ p at′ out′ q e f k =
-            let f′ : at′ ≡ at + s = f ∙ ap (λ (x : Record). at + sizeOf x) m in
-            record {
-              filling =
-                  rw f′
-                  (filling-put (take s (drop at v)) (blockOf (recordsFrom list n (i + 1)) (drop (at + s) v)) to-store (ready .room) block′ out′ (e ∙ ap (λ (x : List ℕ). pasted out x block) q) (k ∙ ap (λ (x : List ℕ). out + length x) q));
-              sizes = omega (arith, g .sizes, ap whole next-new);
-              counted = omega (arith, g .counted, ap news next-new);
-              few = omega (arith, g .few);
-            }
 
 -- ---- both
 

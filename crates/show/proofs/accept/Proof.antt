@@ -1,16 +1,17 @@
 -- `show::accept` meets its contract: each way out is the ruling of the check that failed there, or none. Assumes nothing.
 use native.Mathlib.Omega.{arith}
 use mathlib.Core.Path.{_≡_, sym, _∙_, ap}
+use mathlib.Core.Bool.{true}
 use mathlib.Core.List.{[]}
 use borrow.Author.Tests.{not-true, not-false}
-use lib.ListN.{length}
-use Rattle.format.specs.Record.{recordsOf}
-use Rattle.format.specs.Meaning.{stored}
+use Rattle.format.specs.declared.Ruling.the-variants.{Fine}
+use Rattle.format.specs.Record.{listFits, recordsOf}
 use Rattle.format.proofs.Rows.{counted-of-fits}
 use Rattle.walk.specs.declared.Scope.the-variants as scope
 use Rattle.walk.specs.declared.Totals.{Totals}
 use Rattle.walk.specs.declared.Walked.the-variants.{Through}
 use Rattle.walk.specs.Checks.{checks, walkRuling}
+use Rattle.walk.specs.Walked.{totals}
 use Rattle.walk.proofs.Telling.{fine-of-through, stop-of-stopped}
 use Rattle.show.proofs.Accepting.{inputs-long, inputs-list, inputs-walk, inputs-block, inputs-fine}
 use borrow.Author.Needs.{needs}
@@ -36,6 +37,16 @@ returns-2 c =
     let g = c .before .before .before .before .before .before .before .args in
     rw (inputs-list (g .list .now) (g .block .now) (g .store .now) (c .before .before .before .if1 .left) (sym (c .before .before .list-fits .ensures) ∙ not-true _ (c .before .if2 .taken))) (c .stopped2 .ensures)
 
+-- check 3 has passed; so has the walk, whose totals are the list's
+short : (c : tie.Else2) → listFits (c .before .before .before .before .before .before .args .list .now) ≡ true
+short c = sym (c .before .list-fits .ensures) ∙ not-false _ (c .if2 .left)
+
+passed : (c : tie.After-w) → let g = c .before .before .before .before .before .before .before .before .before .before .args in
+    (walkRuling (checks scope.Store [] (g .store .now)) (g .list .now) ≡ Fine) × (c .w .given .0 .0 ≡ totals (recordsOf (g .list .now)))
+passed c =
+    let g = c .before .before .before .before .before .before .before .before .before .before .args in
+    fine-of-through (walkRuling (checks scope.Store [] (g .store .now)) (g .list .now)) (recordsOf (g .list .now)) (c .w .given .0 .0) (sym (c .before .before .walk .ensures) ∙ c .w .given .1)
+
 sub-walk : tie.Need-sub-walk
 sub-walk c = search needs
 
@@ -46,9 +57,7 @@ part-walk-end : tie.Need-part-walk-end
 part-walk-end c = search needs
 
 walk-requires : tie.Need-walk-requires
-walk-requires c κs =
-    let g = c .before .before .before .before .before .before .before .args in
-    record { list-most = (counted-of-fits (g .list .now) (sym (c .before .before .list-fits .ensures) ∙ not-false _ (c .before .if2 .left))) .list-most; version-most = omega arith }
+walk-requires c κs = record { list-most = counted-of-fits (c .before .before .before .before .before .before .before .args .list .now) (short (c .before)) .list-most; version-most = omega arith }
 
 enum-known-w : tie.Need-enum-known-w
 enum-known-w c = search needs
@@ -59,8 +68,10 @@ enum-told c = search needs
 returns-3 : tie.Need-returns-3
 returns-3 c =
     let g = c .before .before .before .before .before .before .before .before .before .before .args in
-    let stop = stop-of-stopped (walkRuling (checks scope.Store [] (g .store .now)) (g .list .now)) (recordsOf (g .list .now)) (c .enum-told .given .0 .0) (sym (c .before .before .walk .ensures) ∙ c .enum-told .given .1) in
-    rw (inputs-walk (g .list .now) (g .block .now) (g .store .now) (c .before .before .before .before .before .before .if1 .left) (sym (c .before .before .before .before .before .list-fits .ensures) ∙ not-false _ (c .before .before .before .before .if2 .left)) (c .enum-told .given .0 .0) stop) (c .enum-told .given .1)
+    let told = c .enum-told .given in
+    let walk = walkRuling (checks scope.Store [] (g .store .now)) (g .list .now) in
+    let stop = stop-of-stopped walk (recordsOf (g .list .now)) (told .0 .0) (sym (c .before .before .walk .ensures) ∙ told .1) in
+    rw (inputs-walk (g .list .now) (g .block .now) (g .store .now) (c .before .before .before .before .before .before .if1 .left) (short (c .before .before .before .before)) (told .0 .0) stop) (told .1)
 
 index-requires : tie.Need-index-requires
 index-requires c κs = search needs
@@ -71,16 +82,16 @@ stopped-requires-3 c κs = search needs
 returns-4 : tie.Need-returns-4
 returns-4 c =
     let g = c .before .before .before .before .before .before .before .before .before .before .before .before .before .before .args in
-    let through = fine-of-through (walkRuling (checks scope.Store [] (g .store .now)) (g .list .now)) (recordsOf (g .list .now)) (c .before .before .before .before .w .given .0 .0) (sym (c .before .before .before .before .before .before .walk .ensures) ∙ c .before .before .before .before .w .given .1) in
-    let differ : length (g .block .now) ≡ stored (recordsOf (g .list .now)) → ⊥ = λ e. c .before .if3 .taken (e ∙ sym (c .before .before .index .ensures .0 ∙ ap (λ (t : Totals). t .stored) (through .1))) in
-    rw (inputs-block (g .list .now) (g .block .now) (g .store .now) (c .before .before .before .before .before .before .before .before .before .before .if1 .left) (sym (c .before .before .before .before .before .before .before .before .before .list-fits .ensures) ∙ not-false _ (c .before .before .before .before .before .before .before .before .if2 .left)) (through .0) differ) (c .stopped3 .ensures)
+    let through = passed (c .before .before .before .before) in
+    let stored-is = c .before .before .index .ensures .0 ∙ ap (λ (t : Totals). t .stored) (through .1) in
+    rw (inputs-block (g .list .now) (g .block .now) (g .store .now) (c .before .before .before .before .before .before .before .before .before .before .if1 .left) (short (c .before .before .before .before .before .before .before .before)) (through .0) (λ e. c .before .if3 .taken (e ∙ sym stored-is))) (c .stopped3 .ensures)
 
 returns-5 : tie.Need-returns-5
 returns-5 c =
     let g = c .before .before .before .before .before .before .before .before .before .before .before .before .before .args in
-    let through = fine-of-through (walkRuling (checks scope.Store [] (g .store .now)) (g .list .now)) (recordsOf (g .list .now)) (c .before .before .before .w .given .0 .0) (sym (c .before .before .before .before .before .walk .ensures) ∙ c .before .before .before .w .given .1) in
+    let through = passed (c .before .before .before) in
     let same = c .if3 .left ∙ c .before .index .ensures .0 ∙ ap (λ (t : Totals). t .stored) (through .1) in
-    rw (inputs-fine (g .list .now) (g .block .now) (g .store .now) (c .before .before .before .before .before .before .before .before .before .if1 .left) (sym (c .before .before .before .before .before .before .before .before .list-fits .ensures) ∙ not-false _ (c .before .before .before .before .before .before .before .if2 .left)) (through .0) same) (ap Through (through .1))
+    rw (inputs-fine (g .list .now) (g .block .now) (g .store .now) (c .before .before .before .before .before .before .before .before .before .if1 .left) (short (c .before .before .before .before .before .before .before)) (through .0) same) (ap Through (through .1))
 
 pub accept-spec : {M : Type 1} → statement M
 accept-spec =

@@ -29,7 +29,7 @@ formed c = sym (c .before .well-formed .ensures) ∙ not-false _ (c .if1 .left)
 parted : (c : tie.Else2) → isNew (c .before .before .before .before .before .before .args .row) && c .before .before .before .before .before .before .args .seen .fresh ≡ false
 parted c = sym (c .before .adjacent .ensures) ∙ c .if2 .left
 
-fits : (c : tie.Else3) → c .before .before .before .before .before .before .before .before .before .args .seen .offset + c .before .before .before .before .before .before .before .before .before .args .row .size ≤ limitOf (c .before .before .before .before .before .before .before .before .before .args .scope) (c .before .before .before .before .before .before .before .before .before .args .version .now)
+fits : (c : tie.Else3) → let g = c .before .before .before .before .before .before .before .before .before .args in g .seen .offset + g .row .size ≤ limitOf (g .scope) (g .version .now)
 fits c = omega (arith, c .before .before .before .before .before .before .before .before .before .pre .0, c .before .before .before .before .before .before .before .before .before .pre .1, c .if3 .left)
 
 rest : (c : tie.Else3) → let g = c .before .before .before .before .before .before .before .before .before .args in judged (checks (g .scope) (g .version .now) (g .store .now)) (g .seen) (g .row) ≡ judged (beyond (g .scope) (g .version .now) (g .store .now)) (g .seen) (g .row)

@@ -1,8 +1,11 @@
 -- `walk::judge_match` meets its contract: each way out is what checks 7 and 8 come to there. Assumes nothing.
-use mathlib.Core.Path.{refl, sym, _∙_}
-use mathlib.Core.Bool.{true, false}
+use mathlib.Core.Path.{_≡_, refl, sym, _∙_}
+use mathlib.Core.Bool.{Bool, true, false}
 use native.Mathlib.Omega.{arith}
 use borrow.Author.Tests.{leb-true}
+use Rattle.format.specs.declared.Fault.the-variants.{Mismatch}
+use Rattle.format.specs.Refusal.{need}
+use Rattle.walk.specs.Checks.{beyond, judged}
 use Rattle.walk.proofs.Judged.{judged-store, judged-version}
 use borrow.Author.Needs.{needs}
 use Rattle.walk.proofs.judge_match.Statement.{statement}
@@ -39,18 +42,23 @@ equal-requires c κs =
     let limit = rw (c .before .before .before .enum-told3 .given .1) at (c .before .before .before .before .before .before .before .pre .1) in
     (omega (arith, limit, c .index .ensures .0), leb-true _ _ (sym (c .before .before .in-store2 .ensures) ∙ c .before .if2 .taken))
 
+-- the match is in the store, and e tells whether its bytes are the version's
+compared : (c : tie.After-equal) (e : Bool) → c .equal .result ≡ e → let g = c .before .before .before .before .before .before .before .before .args in
+    judged (beyond (g .scope) (g .version .now) (g .store .now)) (g .seen) (g .row) ≡ need e Mismatch (g .seen .place)
+compared c e h =
+    let g = c .before .before .before .before .before .before .before .before .args in
+    let inside = sym (c .before .before .before .in-store2 .ensures) ∙ c .before .before .if2 .taken in
+    let same = rw (c .before .index .ensures .0) at (sym (c .equal .ensures)) ∙ h in
+    rw (c .before .before .before .before .enum-told3 .given .1) (judged-version (g .seen) (g .row) (g .version .now) (g .store .now) (c .before .before .before .before .before .before .before .before .pre .0) true e inside same)
+
 returns-2 : tie.Need-returns-2
-returns-2 c =
-    let g = c .before .before .before .before .before .before .before .before .before .args in
-    rw (c .before .before .before .before .before .enum-told3 .given .1) (sym (judged-version (g .seen) (g .row) (g .version .now) (g .store .now) (c .before .before .before .before .before .before .before .before .before .pre .0) true true (sym (c .before .before .before .before .in-store2 .ensures) ∙ c .before .before .before .if2 .taken) (rw (c .before .before .index .ensures .0) at (sym (c .before .equal .ensures)) ∙ c .if3 .taken)))
+returns-2 c = sym (compared (c .before) true (c .if3 .taken))
 
 stop-requires-2 : tie.Need-stop-requires-2
 stop-requires-2 c κs = search needs
 
 returns-3 : tie.Need-returns-3
-returns-3 c =
-    let g = c .before .before .before .before .before .before .before .before .before .before .args in
-    c .stop2 .ensures ∙ rw (c .before .before .before .before .before .before .enum-told3 .given .1) (sym (judged-version (g .seen) (g .row) (g .version .now) (g .store .now) (c .before .before .before .before .before .before .before .before .before .before .pre .0) true false (sym (c .before .before .before .before .before .in-store2 .ensures) ∙ c .before .before .before .before .if2 .taken) (rw (c .before .before .before .index .ensures .0) at (sym (c .before .before .equal .ensures)) ∙ c .before .if3 .left)))
+returns-3 c = c .stop2 .ensures ∙ sym (compared (c .before .before) false (c .before .if3 .left))
 
 stop-requires-3 : tie.Need-stop-requires-3
 stop-requires-3 c κs = search needs

@@ -36,10 +36,11 @@ loop-less : tie.Need-loop-less Inv-loop μ-loop
 loop-less c = omega arith
 
 loop-again : tie.Need-loop-again Inv-loop μ-loop
-loop-again c = (
-  omega arith,
-  step-tells (c .before .before .before .before .before .before .before .args .a .now) (c .before .before .before .before .before .before .before .args .b .now) 1 (c .before .before .before .loop .k) (c .before .before .before .loop .all) (c .same-byte .result) (omega arith) (omega arith) (λ h. omega arith) (c .before .before .before .loop .inv .1) (rw (c .before .shorter .ensures) at (c .same-byte .ensures)),
-)
+loop-again c =
+    let g = c .before .before .before .before .before .before .before .args in
+    let l = c .before .before .before .loop in
+    let byte = rw (c .before .shorter .ensures) at (c .same-byte .ensures) in
+    (omega arith, step-tells (g .a .now) (g .b .now) 1 (l .k) (l .all) (c .same-byte .result) (omega arith) (omega arith) (λ h. omega arith) (l .inv .1) byte)
 
 returns-2 : tie.Need-returns-2 Inv-loop μ-loop
 returns-2 c = all-tell (c .before .before .before .before .before .args .a .now) (c .before .before .before .before .before .args .b .now) (min (c .before .loop .k) (length (c .before .before .before .before .before .args .a .now))) (omega arith) (omega arith) (c .before .loop .inv .1)

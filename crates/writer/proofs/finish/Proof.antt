@@ -83,17 +83,18 @@ returns c =
     let g = (c .before .before .before .before .before .before .before .before .before .before .before .before .before .before .before .before .before .args) in
     let w = c .before .before .before .before .before .before .before .before .before .before .before .before .before .before .before .before .before .pre .writable in
     let l = listIn (g .list .now) (g .choice .now) in
-    let n : c .before .before .before .before .before .before .before .before .before .before .write-list .result - 0 ≡ length (encode l) = omega (arith, c .before .before .before .before .before .before .before .before .before .before .write-list .ensures .length-is) in
-    let is = ap (take (c .before .before .before .before .before .before .before .before .before .before .write-list .result - 0)) (c .before .before .before .before .before .before .before .before .before .before .write-list .ensures .area-after) ∙ front (c .before .before .before .before .before .before .before .before .before .before .write-list .result - 0) (encode l) (g .list-area .now) n in
+    let out = c .before .before .before .before .before .before .before .before .before .before .write-list in
+    let n : out .result - 0 ≡ length (encode l) = omega (arith, out .ensures .length-is) in
+    let is = ap (take (out .result - 0)) (out .ensures .area-after) ∙ front (out .result - 0) (encode l) (g .list-area .now) n in
     let listed = written-records (g .list .now) (g .choice .now) (g .version .now) (g .list-area .now) (g .block-area .now) w _ is in
-    let entries-is : c .before .before .before .before .before .before .before .before .before .before .write-list .result / 12 ≡ length l = omega (arith, n, length-encode l) in
+    let entries-is : out .result / 12 ≡ length l = omega (arith, n, length-encode l) in
     let stored-is : c .before .before .before .before .write-block .result .bytes ≡ stored l = c .before .before .before .before .write-block .ensures .length-is ∙ ap (λ (x : List Record). length (blockOf x (g .version .now))) listed ∙ block-length (g .list .now) (g .choice .now) (g .version .now) (g .list-area .now) (g .block-area .now) w in
     let fresh-is : c .before .before .before .before .write-block .result .fresh ≡ news l = c .before .before .before .before .write-block .ensures .fresh-is ∙ ap news listed in
-    let kept-is : c .before .before .before .before .before .before .before .before .before .before .write-list .result / 12 - c .before .before .before .before .write-block .result .fresh ≡ matches l = omega (arith, entries-is, fresh-is, entries l) in
+    let kept-is : out .result / 12 - c .before .before .before .before .write-block .result .fresh ≡ matches l = omega (arith, entries-is, fresh-is, entries l) in
     let cost-is : c .cost-by .result .0 ≡ cost (g .rates) l = c .cost-by .ensures ∙ rw (kept-is, fresh-is, stored-is) in
     record {
       answered = rw (cost-is, entries-is, stored-is);
-      area-after = c .before .before .before .before .before .before .before .before .before .before .write-list .ensures .area-after;
+      area-after = out .ensures .area-after;
       block-after = c .before .before .before .before .write-block .ensures .area-after ∙ ap (λ (x : List Record). over (blockOf x (g .version .now)) (g .block-area .now)) listed;
     }
 
