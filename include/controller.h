@@ -5,11 +5,11 @@
  * nothing is kept between calls, and every call returns on any input. So a call may be made from any thread, and several at once, as long as
  * no area that one writes is used by another. Link with libcontroller.a.
  *
- * SURROUNDINGS. The library asks for memcpy and memset, and for nothing else. It has no data of its own. Stack needed, measured by
- * tests/stack.c: pass 61 KiB (its record of kinds and sizes goes by value through each look), each of the other calls under 1 KiB.
+ * SURROUNDINGS. The library asks for memcpy and memset, and for nothing else. It has no data of its own. The stack that it needs is said
+ * at each call, and held to by tests/stack.c.
  *
- * NAMES. The eight calls have plain names. Where they collide with others, give them a prefix: objcopy --redefine-sym measure=box_measure,
- * and so for rebuild, check, compare, partition, estimate, commit and pass, on the archive; and declare them so.
+ * NAMES. The calls have plain names. Where they collide with others, give each a prefix on the archive, as by objcopy --redefine-sym
+ * measure=box_measure, and declare it so.
  *
  * AREAS. An area is a pointer and its length in bytes. A length of 0 goes with any pointer that is not NULL. No area that is lent for
  * writing may share a byte with another area of the same call.
@@ -163,7 +163,8 @@ static inline uint32_t answer_whole(const uint8_t *answer) { return answer_word(
  * Writes: answer (cost, entries, stored bytes, whole length).
  * Refuses, in this order: 1 at 0; 3 at 0; then record by record 4, 5, 6 at the record.
  * On refusal: answer holds number and place.
- * Returns: the number. */
+ * Returns: the number.
+ * Stack: at most 512 bytes. */
 uint32_t measure(uint32_t en, uint32_t em, uint32_t f,
                  const uint8_t *list, size_t list_len,
                  uint8_t *answer, size_t answer_len);
@@ -175,7 +176,8 @@ uint32_t measure(uint32_t en, uint32_t em, uint32_t f,
  * Writes: the first bytes of area, as many as the whole length; bytes beyond are unchanged. answer (whole length).
  * Refuses, in this order: 2 at 0; 3 at 0; record by record 4, 5, 6, 7 at the record; 10 at 0; 9 at 0.
  * On refusal: answer holds number and place; area is unchanged.
- * Returns: the number. */
+ * Returns: the number.
+ * Stack: at most 512 bytes. */
 uint32_t rebuild(const uint8_t *list, size_t list_len,
                  const uint8_t *block, size_t block_len,
                  const uint8_t *store, size_t store_len,
@@ -189,7 +191,8 @@ uint32_t rebuild(const uint8_t *list, size_t list_len,
  * Writes: answer (nothing but number and place).
  * Refuses, in this order: 2 at 0; 3 at 0; record by record 4, 5, 6, 7 at the record; 10 at 0; 11 at 0.
  * On refusal: answer holds number and place.
- * Returns: the number. */
+ * Returns: the number.
+ * Stack: at most 512 bytes. */
 uint32_t check(const uint8_t *list, size_t list_len,
                const uint8_t *block, size_t block_len,
                const uint8_t *store, size_t store_len,
@@ -206,7 +209,8 @@ uint32_t check(const uint8_t *list, size_t list_len,
  * Refuses, as check does but for its 11, first the first list wholly, then the second: 2 at 0; 3 at 0; record by record 4, 5, 6, 7 at the
  *   record; 10 at 0. The place counts within the list at fault. Which of the two that is, check tells.
  * On refusal: answer holds number and place.
- * Returns: the number. */
+ * Returns: the number.
+ * Stack: at most 512 bytes. */
 uint32_t compare(const uint8_t *first, size_t first_len,
                  const uint8_t *second, size_t second_len,
                  const uint8_t *first_block, size_t first_block_len,
@@ -227,7 +231,8 @@ uint32_t compare(const uint8_t *first, size_t first_len,
  *   bytes of the new list).
  * Refuses, in this order: 1 at 0; 2 at 0; 3 at 0; 9 at 0; record by record 4, 5, 6, 7, 8 at the record; 6 at the number of records.
  * On refusal: answer holds number and place; choice, list_area and block_area are unchanged.
- * Returns: the number. */
+ * Returns: the number.
+ * Stack: at most 1,024 bytes. */
 uint32_t partition(uint32_t en, uint32_t em, uint32_t f,
                    const uint8_t *list, size_t list_len,
                    const uint8_t *version, size_t version_len,
@@ -245,7 +250,8 @@ uint32_t partition(uint32_t en, uint32_t em, uint32_t f,
  * Refuses, in this order: 1 at 0; 2 at 0; 3 at 0; 9 at 0, by the area for choice alone; record by record 4, 5, 6, 7, 8 at the record; 6 at
  *   the number of records.
  * On refusal: answer holds number and place; choice is unchanged.
- * Returns: the number. */
+ * Returns: the number.
+ * Stack: at most 1,024 bytes. */
 uint32_t estimate(uint32_t en, uint32_t em, uint32_t f,
                   const uint8_t *list, size_t list_len,
                   const uint8_t *version, size_t version_len,
@@ -264,7 +270,8 @@ uint32_t estimate(uint32_t en, uint32_t em, uint32_t f,
  * Refuses, in this order: 1 at 0; 2 at 0; 3 at 0; 9 at 0, by list_area and block_area; record by record 4, 5, 6, 7, 8 at the record; 6 at the
  *   number of records; 12 at 0 for a choice that is too short or too long; 12 at the first record with a byte that it may not have.
  * On refusal: answer holds number and place; list_area and block_area are unchanged.
- * Returns: the number. */
+ * Returns: the number.
+ * Stack: at most 1,024 bytes. */
 uint32_t commit(uint32_t en, uint32_t em, uint32_t f,
                 const uint8_t *list, size_t list_len,
                 const uint8_t *version, size_t version_len,
@@ -281,7 +288,8 @@ uint32_t commit(uint32_t en, uint32_t em, uint32_t f,
  *   at most 2n - 1 of them for n records, each run counted as one. A held match is looked at and passed by, and merged with nothing. The pass
  *   never stores a match that stands alone, which may be worth it where EN is less than EM.
  * Areas, writes, refuses, on refusal, returns: as for partition. answer also gives the looks. The list costs no less than partition's
- *   and no more than the one handed in, as measure prices that. It is no faster: on 4,096 short records it took 7 to 25 times as long as partition. */
+ *   and no more than the one handed in, as measure prices that. It is no faster: on 4,096 short records it took 7 to 25 times as long as partition.
+ * Stack: at most 65,536 bytes, as its record of kinds and sizes goes by value through each look. */
 uint32_t pass(uint32_t en, uint32_t em, uint32_t f,
               const uint8_t *list, size_t list_len,
               const uint8_t *version, size_t version_len,
