@@ -1,40 +1,51 @@
 /* controller.h - the calls of the deposit box for a controller in C.
  *
- * Scope: the lists of docs/SPECIFICATION.md ("The list"): what they measure, whether they are sound, the version they rebuild, whether two
- * of them give the same one, the list that costs least, and what that would come to. Numbers and byte areas go in; nothing is allocated,
- * nothing is kept between calls, and every call returns on any input. So a call may be made from any thread, and several at once, as long as
- * no area that one writes is used by another. Link with libcontroller.a.
+ * SCOPE. The calls take lists of records, each new or a match in the store, and say what a list
+ * costs, whether it is sound, which version it rebuilds, whether two lists give the same version,
+ * and which list costs least. docs/SPECIFICATION.md has the rules, in numbered clauses; "clause"
+ * below is one of them.
  *
- * SURROUNDINGS. The library asks for memcpy and memset, and for nothing else. It has no data of its own. Stack needed, measured by
- * tests/stack.c: pass 61 KiB (its record of kinds and sizes goes by value through each look), each of the other calls under 1 KiB.
+ * SURROUNDINGS. Link with libcontroller.a. Nothing is allocated and nothing is kept between calls.
+ * Every call returns, on any input. A call may be made from any thread, and several at once, as
+ * long as no area that one writes is used by another. The library asks for memcpy and memset, and
+ * for nothing else. It has no data of its own. The stack that a call needs is said at the call.
  *
- * NAMES. The eight calls have plain names. Where they collide with others, give them a prefix: objcopy --redefine-sym measure=box_measure,
- * and so for rebuild, check, compare, partition, estimate, commit and pass, on the archive; and declare them so.
+ * NAMES. The calls have plain names. Where they collide with others, rename each in the archive, as
+ * by objcopy --redefine-sym measure=box_measure, and declare it so.
  *
- * AREAS. An area is a pointer and its length in bytes. A length of 0 goes with any pointer that is not NULL. No area that is lent for
- * writing may share a byte with another area of the same call.
+ * AREAS. An area is a buffer: a pointer and its length in bytes. A length of 0 goes with any
+ * pointer that is not NULL. No area that is lent for writing may share a byte with another area of
+ * the same call. What a call writes stands at the front of an area; bytes beyond it are unchanged.
  *
- * THE ANSWER AREA. Its first 32 bytes are written by every call, accepted or refused; bytes beyond them are unchanged. What a call does
- * not give is 0. Numbers are unsigned, lowest byte first:
+ * THE ANSWER AREA. Its first 32 bytes are written by every call, accepted or refused; bytes beyond
+ * them are unchanged. What a call does not give is 0. Fields are unsigned, lowest byte first:
  *
  *   OFFSET  SIZE  FIELD
- *   0       4     number: 0 accepted, else why it was refused (below)
- *   4       4     place: the record concerned, counted from 0; 0 where no record is
+ *   0       4     number (error code): 0 accepted, else why it was refused (below)
+ *   4       4     place: the record concerned, counted from 0; 0 where no record is, and on
+ *                 acceptance
  *   8       8     cost, in 256ths of a disk byte
- *   16      4     entries: records of the list; of compare, 1 for yes and 0 for no
+ *   16      4     entries (index entries): records of the list; of compare, 1 for yes, 0 for no
  *   20      4     stored bytes: the sizes of new records together
  *   24      4     looks
  *   28      4     whole length: all sizes together
  *
- * An answer area under 32 bytes: 9 is returned before any other check, and nothing is written anywhere.
+ * An answer area under 32 bytes: 9 is returned before any other check, and nothing is written
+ * anywhere.
  *
  * ON REFUSAL the answer area holds number and place, and no other area changes.
  *
- * THE PRICE is EN and EM, how many index bytes a new entry and a match take, and F, how many 256ths of a disk byte one index byte is worth:
- * F = 256 is one disk byte, 384 is one and a half. A new entry costs F * EN, a match F * EM, a stored byte 256, and every cost is in this
- * unit. A new entry needs no address, so EN may be less than EM; every order of the two is allowed.
+ * THE PRICE is three numbers:
  *
- * THE LIST: 0 to 4,096 records of 12 bytes, in the order of the version. Two new records never stand next to each other.
+ *   EN  1 to 255     index bytes of a new entry
+ *   EM  1 to 255     index bytes of a match; EN may be less, as a new entry needs no address
+ *   F   1 to 65,535  the worth of one index byte in 256ths of a disk byte: 256 is one disk byte,
+ *                    384 is one and a half
+ *
+ * A new entry costs F * EN, a match F * EM, a stored byte 256. Every cost is in this unit.
+ *
+ * THE LIST has 0 to 4,096 records of 12 bytes, in the order of the version. No new record stands
+ * right after a new one.
  *
  *   OFFSET  SIZE  FIELD
  *   0       1     kind: 0 new, 1 match
@@ -43,26 +54,31 @@
  *   4       4     size: bytes covered, 1 or more, lowest byte first
  *   8       4     address: where a match begins in the store; zero in a new record
  *
- * A HELD MATCH must go on being drawn from the store: partition, estimate and pass always keep it, and commit refuses a choice that does not.
- * It joins the match before or after it only where that one is held too, and what is written carries the mark. To measure, rebuild, check and
- * compare the mark means nothing.
+ * A finder of matches that would need more than 4,096 records ends its list early: the rest of the
+ * version is one new record.
  *
- * THE NUMBERS, by their cause:
+ * A HELD MATCH must go on being drawn from the store. Partition, estimate and pass always keep it;
+ * commit refuses a choice that does not. It joins a neighbour only where that one is held too. What
+ * is written carries the mark. To measure, rebuild, check and compare the mark means nothing.
+ *
+ * THE NUMBERS, by their cause; number n is clause 5.n:
  *
  *   whoever sets up the box
- *    1  EN, EM or F outside its range (EN and EM 1 to 255, F 1 to 65,535)
+ *    1  EN, EM or F is outside its range
  *   the calling program
  *    2  the version is over 16,777,216 bytes, or the store over 268,435,456
- *    9  an area too short
+ *    9  an area is too short
  *   11  there is no record k
- *   12  a choice that is not one byte for each record (place: 0), or has a byte over 1, a 0 for a new record or a 1 for a held match (place:
- *       the first such record)
+ *   12  the choice is not one byte for each record (place: 0); or it has a byte over 1, a 0 for a
+ *       new record or a 1 for a held match (place: the first such record)
  *   the finder of matches
  *    3  the list's length is no multiple of 12, or over 49,152
- *    4  a record of other kind, with a byte 1 over 1 or a nonzero byte 2 or 3, of size 0, or a new record with a mark or an address
- *    5  a new record right after a new one
- *    6  the sizes pass the version's length (in measure, rebuild, check and compare: 16,777,216) at this record; or, in partition,
- *       estimate, commit and pass, they end short of it (place: the number of records)
+ *    4  a record has a kind over 1, a byte 1 over 1, a nonzero byte 2 or 3, or size 0; or a new
+ *       record has a mark or an address
+ *    5  a new record stands right after a new one (place: the second)
+ *    6  with this record the sizes pass the version's length (in measure, rebuild, check and
+ *       compare: 16,777,216); or, in partition, estimate, commit and pass, all sizes end short of
+ *       it (place: the number of records)
  *    7  a match runs beyond the store
  *    8  a match's bytes differ from the version
  *   the disk
@@ -130,13 +146,17 @@ static inline const char *number_text(uint32_t number)
     case BAD_LIST_LENGTH: return "the list's length is no multiple of 12, or over 49,152";
     case MALFORMED_RECORD: return "a record is malformed";
     case ADJACENT_NEW_RECORDS: return "a new record stands right after a new one";
-    case BAD_SIZES: return "the sizes do not add up to the version's length, or pass the greatest length of one";
+    case BAD_SIZES:
+        return "the sizes do not add up to the version's length, "
+               "or pass the greatest length of one";
     case OUTSIDE_STORE: return "a match runs beyond the store";
     case MISMATCH: return "a match's bytes differ from the version";
     case AREA_TOO_SHORT: return "an area is too short";
     case BAD_BLOCK_LENGTH: return "the stored block is not as long as the new sizes together";
     case NO_SUCH_RECORD: return "there is no such record";
-    case BAD_CHOICE: return "the choice is not one byte for each record, or has a byte that its record may not have";
+    case BAD_CHOICE:
+        return "the choice is not one byte for each record, "
+               "or has a byte that its record may not have";
     default: return "no number of this library";
     }
 }
@@ -144,69 +164,86 @@ static inline const char *number_text(uint32_t number)
 /* The fields of an answer area. */
 static inline uint32_t answer_word(const uint8_t *answer, size_t at)
 {
-    return (uint32_t)answer[at] | (uint32_t)answer[at + 1] << 8 | (uint32_t)answer[at + 2] << 16 | (uint32_t)answer[at + 3] << 24;
+    return (uint32_t)answer[at] | (uint32_t)answer[at + 1] << 8 | (uint32_t)answer[at + 2] << 16
+        | (uint32_t)answer[at + 3] << 24;
 }
 
 static inline uint32_t answer_number(const uint8_t *answer) { return answer_word(answer, 0); }
 static inline uint32_t answer_place(const uint8_t *answer) { return answer_word(answer, 4); }
-static inline uint64_t answer_cost(const uint8_t *answer) { return answer_word(answer, 8) | (uint64_t)answer_word(answer, 12) << 32; }
+static inline uint64_t answer_cost(const uint8_t *answer)
+{
+    return answer_word(answer, 8) | (uint64_t)answer_word(answer, 12) << 32;
+}
 static inline uint32_t answer_entries(const uint8_t *answer) { return answer_word(answer, 16); }
 static inline uint32_t answer_stored(const uint8_t *answer) { return answer_word(answer, 20); }
 static inline uint32_t answer_looks(const uint8_t *answer) { return answer_word(answer, 24); }
 static inline uint32_t answer_whole(const uint8_t *answer) { return answer_word(answer, 28); }
 
-/* measure - what a list costs.
+/* measure - what a list costs (section 4.2).
  *
- * Does: adds up a list: its records, the sizes of its new records, all its sizes, and its cost at the price of EN, EM and F:
- *   F * (EN * new entries + EM * matches) + 256 * stored bytes. Records are counted as they come, also matches that go on in the store.
+ * Does: adds up a list: its records, the sizes of its new records, all its sizes, and its cost,
+ *   F * (EN * new entries + EM * matches) + 256 * stored bytes. Records are counted as they come:
+ *   matches that partition would join count one by one.
  * Areas: list.
  * Writes: answer (cost, entries, stored bytes, whole length).
- * Refuses, in this order: 1 at 0; 3 at 0; then record by record 4, 5, 6 at the record.
+ * Refuses, in this order: 1 at 0; 3 at 0; record by record 4, 5, 6 at the record.
  * On refusal: answer holds number and place.
- * Returns: the number. */
+ * Returns: the number.
+ * Stack: at most 512 bytes. */
 uint32_t measure(uint32_t en, uint32_t em, uint32_t f,
                  const uint8_t *list, size_t list_len,
                  uint8_t *answer, size_t answer_len);
 
-/* rebuild - the version that a list stands for.
+/* rebuild - the version that a list stands for (section 4.3).
  *
- * Does: goes through the records, and copies the next bytes of the stored block for a new record, the store's bytes for a match.
+ * Does: goes through the records. It copies the next bytes of the stored block for a new record,
+ *   the store's bytes for a match.
  * Areas: list; block, the stored block; store; area, at least as long as the whole length.
- * Writes: the first bytes of area, as many as the whole length; bytes beyond are unchanged. answer (whole length).
- * Refuses, in this order: 2 at 0; 3 at 0; record by record 4, 5, 6, 7 at the record; 10 at 0; 9 at 0.
+ * Writes: the first bytes of area, as many as the whole length; answer (whole length).
+ * Refuses, in this order: 2 at 0; 3 at 0; record by record 4, 5, 6, 7 at the record; 10 at 0;
+ *   9 at 0.
  * On refusal: answer holds number and place; area is unchanged.
- * Returns: the number. */
+ * Returns: the number.
+ * Stack: at most 512 bytes. */
 uint32_t rebuild(const uint8_t *list, size_t list_len,
                  const uint8_t *block, size_t block_len,
                  const uint8_t *store, size_t store_len,
                  uint8_t *area, size_t area_len,
                  uint8_t *answer, size_t answer_len);
 
-/* check - whether a list, its stored block and the store are sound, and have a record k.
+/* check - whether a list, its stored block and the store are sound (section 4.4).
  *
- * Does: makes rebuild's checks, but for the area's; then asks that k, counted from 0, is below the number of records.
+ * Does: makes rebuild's checks, but for the area's. Then it asks that k, counted from 0, is below
+ *   the number of records. So a list without records always gets 11, or a number before it: such a
+ *   list is sound where check answers 11.
  * Areas: list; block, the stored block; store.
- * Writes: answer (nothing but number and place).
- * Refuses, in this order: 2 at 0; 3 at 0; record by record 4, 5, 6, 7 at the record; 10 at 0; 11 at 0.
+ * Writes: answer (number and place alone).
+ * Refuses, in this order: 2 at 0; 3 at 0; record by record 4, 5, 6, 7 at the record; 10 at 0;
+ *   11 at 0.
  * On refusal: answer holds number and place.
- * Returns: the number. */
+ * Returns: the number.
+ * Stack: at most 512 bytes. */
 uint32_t check(const uint8_t *list, size_t list_len,
                const uint8_t *block, size_t block_len,
                const uint8_t *store, size_t store_len,
                uint32_t k,
                uint8_t *answer, size_t answer_len);
 
-/* compare - whether two lists give the same version.
+/* compare - whether two lists give the same version (section 4.6).
  *
- * Does: goes through both lists side by side and compares what they stand for, the shorter of the two current stretches at a time, up to the
- *   first difference; neither version is built. Yes, 1, exactly where rebuild would make the same bytes of both; else no, 0.
- * Areas: first and second, two lists; first_block and second_block, the stored block of each; store, that of both. Areas that are only read
- *   may be the same.
+ * Does: goes through both lists side by side and compares what they stand for, up to the first
+ *   difference. Neither version is built. Yes exactly where rebuild would make the same bytes of
+ *   both; else no.
+ * Areas: first and second, two lists; first_block and second_block, the stored block of each;
+ *   store, that of both. Areas that are only read may be the same.
  * Writes: answer (entries: 1 yes, 0 no).
- * Refuses, as check does but for its 11, first the first list wholly, then the second: 2 at 0; 3 at 0; record by record 4, 5, 6, 7 at the
- *   record; 10 at 0. The place counts within the list at fault. Which of the two that is, check tells.
+ * Refuses, the first list wholly, then the second: 2 at 0; 3 at 0; record by record 4, 5, 6, 7 at
+ *   the record; 10 at 0. The place counts within the list at fault. To know which list that is,
+ *   call check with the first list and its block: where it answers 0 or 11, the second list is at
+ *   fault.
  * On refusal: answer holds number and place.
- * Returns: the number. */
+ * Returns: the number.
+ * Stack: at most 512 bytes. */
 uint32_t compare(const uint8_t *first, size_t first_len,
                  const uint8_t *second, size_t second_len,
                  const uint8_t *first_block, size_t first_block_len,
@@ -214,20 +251,24 @@ uint32_t compare(const uint8_t *first, size_t first_len,
                  const uint8_t *store, size_t store_len,
                  uint8_t *answer, size_t answer_len);
 
-/* partition - the list that costs least.
+/* partition - the list that costs least (section 4.7).
  *
- * Does: of all ways to keep each match or to store its bytes again, held ones kept, takes the one whose list costs least at the price of EN, EM
- *   and F, new records that come to stand next to each other fused, and kept matches too where the second begins in the store where the first
- *   ends and both are held or neither is: such a run is one record and one entry, with the first's address and mark and the sizes together. Of
- *   several that cost the same it takes the one that keeps at the first record where they differ.
- * Areas: version, the bytes to be kept; store, the old data; list, which describes version against store; choice, 1 byte for each
- *   record; list_area, as long as list; block_area, as long as version.
- * Writes: the first bytes of choice, one for each record handed in (0 kept as match, 1 new); the first bytes of list_area, the new list, 12 for
- *   each of its entries; the first bytes of block_area, its stored block; bytes beyond are unchanged. answer (cost, entries and stored
- *   bytes of the new list).
- * Refuses, in this order: 1 at 0; 2 at 0; 3 at 0; 9 at 0; record by record 4, 5, 6, 7, 8 at the record; 6 at the number of records.
+ * Does: of all ways to keep each match or to store its bytes again, held ones kept, takes the one
+ *   whose list costs least. Of several that cost the same it takes the one that keeps at the first
+ *   record where they differ. In the list, new records that come to stand next to each other are
+ *   fused. So are kept matches, where the second begins in the store where the first ends and both
+ *   are held or neither is: they are one record and one entry, with the first's address and mark.
+ * Areas: version, the bytes to be kept; store, the old data; list, which describes version against
+ *   store; choice, at least 1 byte for each record; list_area, at least as long as list;
+ *   block_area, at least as long as version.
+ * Writes: the first bytes of choice, one for each record handed in (0 kept as match, 1 new); the
+ *   first bytes of list_area, the new list, 12 for each of its entries; the first bytes of
+ *   block_area, its stored block; answer (cost, entries and stored bytes of the new list).
+ * Refuses, in this order: 1 at 0; 2 at 0; 3 at 0; 9 at 0; record by record 4, 5, 6, 7, 8 at the
+ *   record; 6 at the number of records.
  * On refusal: answer holds number and place; choice, list_area and block_area are unchanged.
- * Returns: the number. */
+ * Returns: the number.
+ * Stack: at most 1,024 bytes. */
 uint32_t partition(uint32_t en, uint32_t em, uint32_t f,
                    const uint8_t *list, size_t list_len,
                    const uint8_t *version, size_t version_len,
@@ -237,15 +278,18 @@ uint32_t partition(uint32_t en, uint32_t em, uint32_t f,
                    uint8_t *block_area, size_t block_area_len,
                    uint8_t *answer, size_t answer_len);
 
-/* estimate - what partition would come to, before an area is taken for its list and its stored block.
+/* estimate - what partition would come to (section 4.8).
  *
- * Does: finds partition's choice, and gives cost, entries and stored bytes as partition would.
- * Areas: list, version and store as for partition; choice, 1 byte for each record; no other.
- * Writes: the first bytes of choice, as partition does; bytes beyond are unchanged. answer (cost, entries and stored bytes).
- * Refuses, in this order: 1 at 0; 2 at 0; 3 at 0; 9 at 0, by the area for choice alone; record by record 4, 5, 6, 7, 8 at the record; 6 at
- *   the number of records.
+ * Does: finds partition's choice, and gives cost, entries and stored bytes as partition would. It
+ *   needs no area for list and stored block. What it answers does not shorten commit's areas: these
+ *   are as long as the list handed in and the version, else commit refuses with 9.
+ * Areas: list, version and store as for partition; choice, at least 1 byte for each record.
+ * Writes: the first bytes of choice, as partition does; answer (cost, entries and stored bytes).
+ * Refuses, in this order: 1 at 0; 2 at 0; 3 at 0; 9 at 0, by choice alone; record by record 4, 5,
+ *   6, 7, 8 at the record; 6 at the number of records.
  * On refusal: answer holds number and place; choice is unchanged.
- * Returns: the number. */
+ * Returns: the number.
+ * Stack: at most 1,024 bytes. */
 uint32_t estimate(uint32_t en, uint32_t em, uint32_t f,
                   const uint8_t *list, size_t list_len,
                   const uint8_t *version, size_t version_len,
@@ -253,18 +297,23 @@ uint32_t estimate(uint32_t en, uint32_t em, uint32_t f,
                   uint8_t *choice, size_t choice_len,
                   uint8_t *answer, size_t answer_len);
 
-/* commit - the list and the stored block of a choice.
+/* commit - the list and the stored block of a choice (section 4.9).
  *
- * Does: writes the list of a choice, least or not, joined as partition joins, with its stored block. After an estimate, with the bytes that it
- *   wrote (choice_len the number of records) and the same list, version, store and price, it gives what partition gives.
- * Areas: list, version and store as for partition; choice, which is read, just 1 byte for each record: 1 for a new one, 0 for a held match, 0
- *   (kept) or 1 (stored) for another match; list_area, as long as list; block_area, as long as version.
- * Writes: the first bytes of list_area and of block_area, as partition does; bytes beyond are unchanged. answer (cost, entries and stored bytes
- *   of the list written).
- * Refuses, in this order: 1 at 0; 2 at 0; 3 at 0; 9 at 0, by list_area and block_area; record by record 4, 5, 6, 7, 8 at the record; 6 at the
- *   number of records; 12 at 0 for a choice that is too short or too long; 12 at the first record with a byte that it may not have.
+ * Does: writes the list of a choice, least or not, joined as partition joins, with its stored
+ *   block. After an estimate, with the bytes that it wrote and the same list, version, store and
+ *   price, it gives what partition gives.
+ * Areas: list, version and store as for partition; choice, which is read; list_area, at least as
+ *   long as list; block_area, at least as long as version. choice has exactly 1 byte for each
+ *   record (choice_len is the number of records): 1 for a new record, 0 for a held match, 0 (kept)
+ *   or 1 (stored) for another match.
+ * Writes: the first bytes of list_area and of block_area, as partition does; answer (cost, entries
+ *   and stored bytes of the list written).
+ * Refuses, in this order: 1 at 0; 2 at 0; 3 at 0; 9 at 0, by list_area and block_area; record by
+ *   record 4, 5, 6, 7, 8 at the record; 6 at the number of records; 12 at 0 for a choice that is
+ *   too short or too long; 12 at the first record with a byte that it may not have.
  * On refusal: answer holds number and place; list_area and block_area are unchanged.
- * Returns: the number. */
+ * Returns: the number.
+ * Stack: at most 1,024 bytes. */
 uint32_t commit(uint32_t en, uint32_t em, uint32_t f,
                 const uint8_t *list, size_t list_len,
                 const uint8_t *version, size_t version_len,
@@ -274,14 +323,20 @@ uint32_t commit(uint32_t en, uint32_t em, uint32_t f,
                 uint8_t *block_area, size_t block_area_len,
                 uint8_t *answer, size_t answer_len);
 
-/* pass - the published linear method, look by look.
+/* pass - the published linear method, look by look (section 4.10).
  *
- * Does: joins the runs of matches that go on in the store, as partition does; then moves a cursor over the list, and merges a short match into
- *   new neighbours, or two short matches into a new record, by the five rules of docs/SPECIFICATION.md ("Pass"); one look at a record at a time,
- *   at most 2n - 1 of them for n records, each run counted as one. A held match is looked at and passed by, and merged with nothing. The pass
- *   never stores a match that stands alone, which may be worth it where EN is less than EM.
- * Areas, writes, refuses, on refusal, returns: as for partition. answer also gives the looks. The list costs no less than partition's
- *   and no more than the one handed in, as measure prices that. It is no faster: on 4,096 short records it took 7 to 25 times as long as partition. */
+ * Does: joins matches as partition does. Then it moves a cursor over the list, one look at a record
+ *   at a time, and merges a short match into new neighbours, or two short matches into a new
+ *   record. It makes at most 2n - 1 looks for n records after joining. A held match is looked at
+ *   and passed by. A match that stands alone is never stored, though that may be worth it where EN
+ *   is less than EM. It is no faster than partition: docs/SPEED.md has the times.
+ * Areas: as for partition.
+ * Writes: as partition does; answer gives the looks besides. The list costs no less than
+ *   partition's, and no more than the one handed in, as measure prices that.
+ * Refuses: as partition does.
+ * On refusal: answer holds number and place; choice, list_area and block_area are unchanged.
+ * Returns: the number.
+ * Stack: at most 65,536 bytes, as its record of kinds and sizes goes by value through each look. */
 uint32_t pass(uint32_t en, uint32_t em, uint32_t f,
               const uint8_t *list, size_t list_len,
               const uint8_t *version, size_t version_len,

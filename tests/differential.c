@@ -17,7 +17,7 @@
  *
  *   differential [seed]
  *
- * The same seed gives the same inputs. Exit 0 where nothing differs, each number of documents 01 and 02, for each list of compare, and each kind of
+ * The same seed gives the same inputs. Exit 0 where nothing differs, each number of docs/SPECIFICATION.md, section 5, for each list of compare, and each kind of
  * price below was reached, 4 also for a mark on a new record and for byte 1 over 1 on a match, 12 for each of its five causes, each kind of choice
  * was judged by commit and stood behind another fault, and choices were committed that cost more than the estimate's, and as much, a match differed
  * in one byte at each pair of places within a word, yes of two different lists and no were each given in two pairs of five or more, of neighbouring
@@ -548,7 +548,7 @@ static void tally_matches(const struct input *in)
     }
 }
 
-/* The list and stored block that document 01, and document 02's S-4 and S-6, make of a choice, into the areas of the laws; how many records. */
+/* The list and stored block of a choice (clauses 3.4 to 3.8), into the areas of the laws; how many records. */
 static size_t list_of_choice(const struct input *in, const uint8_t *choice, size_t *stored)
 {
     size_t entries = 0, offset = 0;

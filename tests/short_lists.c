@@ -1,6 +1,6 @@
 /* short_lists.c - partition, estimate and pass on every short list, against every choice of it and a second writing of the five rules.
  *
- * Written from document 01, and document 02's S-1, S-2, S-4, S-6 and S-7, alone: nothing here is of the crates or of tests/reference. The lists have 0
+ * Written from docs/SPECIFICATION.md, sections 2 to 4, alone: nothing here is of the crates or of tests/reference. The lists have 0
  * to 6 records, new or match, of the sizes 1, 3, 4, 7 and 8, but none of 7 among six; each match after a match once goes on in the store
  * where that one ended, and once begins a byte later. Among up to four records, and among five of the sizes 1, 4 and 8, each match is once held and
  * once not. All of them are tried at each of eight prices: every entry at 4 disk bytes, at a little less and a little more, and at 3 and a half;

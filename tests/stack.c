@@ -4,7 +4,8 @@
  * a call may write a byte that looks like one. The few frames that lead to the call are counted with it, and `nothing` shows them
  * alone. The lists are full (4,096 records) and lead through the merges of the pass, a stored and a kept list, held matches, and refusals.
  *
- * One line for each call, in bytes. Exit 0 where none takes more than controller.h says: 1 KiB, and 64 KiB for pass; else 1.
+ * The calls, and the most stack that each may take, are those of controller.h, which tests/declared reads. One line for each call, in
+ * bytes. Exit 0 where none takes more than the header says, else 1.
  */
 #define _XOPEN_SOURCE 700
 #include <stdint.h>
@@ -129,21 +130,16 @@ static void call_pass(void)
                   list_area, sizeof list_area, area, BYTES, answer, sizeof answer);
 }
 
-/* The calls, whether the price goes into them, and the most that they may take. */
+/* The calls by the header: whether the price goes into each, and the most that it may take. calls.def has a line CALL(name, priced, most)
+ * for each; a call that has no function above does not compile. */
+#define CALL(name, priced, most) { #name, call_##name, priced, most },
 static const struct call {
     const char *name;
     void (*run)(void);
     int priced;
     size_t most;
 } calls[] = {
-    { "measure", call_measure, 1, KIB },
-    { "rebuild", call_rebuild, 0, KIB },
-    { "check", call_check, 0, KIB },
-    { "compare", call_compare, 0, KIB },
-    { "partition", call_partition, 1, KIB },
-    { "estimate", call_estimate, 1, KIB },
-    { "commit", call_commit, 1, KIB },
-    { "pass", call_pass, 1, 64 * KIB },
+#include "calls.def"
 };
 
 enum { CALLS = sizeof calls / sizeof *calls };
@@ -202,10 +198,10 @@ static size_t greatest_depth(const struct call *call)
 int main(void)
 {
     int over = 0;
-    printf("stack: %-9s %6zu bytes\n", "nothing", depth_of(call_nothing));
+    printf("stack: %-14s %6zu bytes\n", "nothing", depth_of(call_nothing));
     for (unsigned i = 0; i < CALLS; i++) {
         const size_t depth = greatest_depth(&calls[i]);
-        printf("stack: %-9s %6zu bytes of %zu\n", calls[i].name, depth, calls[i].most);
+        printf("stack: %-14s %6zu bytes of %zu\n", calls[i].name, depth, calls[i].most);
         over |= depth > calls[i].most;
     }
     return over;

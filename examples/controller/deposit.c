@@ -2,7 +2,7 @@
  *
  *   deposit OLD NEW [EN EM F]
  *
- * OLD is the store and NEW the version of document 01; EN, EM and F are the price, 12, 16 and 1024 where they are not given: a new entry has
+ * OLD is the store and NEW the version; EN, EM and F are the price, 12, 16 and 1024 where they are not given: a new entry has
  * no address, which spares 4 bytes, and F is in 256ths of a disk byte. It finds matches, measures the list found, hands it to pass for comparison,
  * and estimates what the least list would come to. Only then are areas taken for that list and its stored block: the estimate's choice is
  * committed, NEW rebuilt from what was written, and the two lists written are compared. Costs are printed in disk bytes. Nothing goes to disk.

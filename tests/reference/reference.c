@@ -1,6 +1,4 @@
-/* reference.c - the calls of document 01, with costs in 256ths of a disk byte and a price for new entries and one for matches (document 02,
- * S-1 and S-2), compare (S-3), runs of matches that go on in the store (S-4), matches that must be held (S-6), and the estimate and the commitment
- * (S-7), a second time, in plain C.
+/* reference.c - the calls of docs/SPECIFICATION.md, section 4, a second time, in plain C.
  *
  * In order: limits; reading and writing of fields; the checks of the inputs; the cost; measure, rebuild and check; compare; runs; the
  * least choice; the pass; what a choice comes to; partition and pass; estimate and commit. It shares no line with the library and takes nothing

@@ -1,9 +1,7 @@
-/* reference.h - the calls of document 01, with costs in 256ths of a disk byte and a price for new entries and one for matches (document 02,
- * S-1 and S-2), compare (S-3), runs of matches that go on in the store (S-4), matches that must be held (S-6), and the estimate and the commitment
- * (S-7), a second time, in plain C.
+/* reference.h - the calls of docs/SPECIFICATION.md, section 4, a second time, in plain C.
  *
  * Scope: what the differential test compares the library with, and what the benchmark takes for its baseline. The calls have
- * the signatures of controller.h, with the prefix ref_; areas, answer area, numbers and their order are those of document 01.
+ * the signatures of controller.h, with the prefix ref_; areas, answer area, numbers and their order are those of sections 5 to 7.
  * A length of 0 goes with any pointer, NULL too. Not here: two calls at once, since the working rows are static.
  */
 #ifndef REFERENCE_H
