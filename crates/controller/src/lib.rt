@@ -59,7 +59,7 @@ pub extern "C" fn partition(
 ) -> u32
     ensures answered { λ r. ⌜ Answered (partitionAnswer (record { en = en; em = em; f = f }) (now (list .entry)) (now (version .entry)) (now (store .entry)) (areas (now (choice .entry)) (now («list_area» .entry)) (now («block_area» .entry)))) (now (answer .entry)) r (now (answer .exit)) ⌝ }
     ensures areas_after { λ _. ⌜ areas (now (choice .exit)) (now («list_area» .exit)) (now («block_area» .exit))
-      ≡ lent (now (answer .entry)) (partitionAreas (record { en = en; em = em; f = f }) (now (list .entry)) (now (version .entry)) (now (store .entry)) (areas (now (choice .entry)) (now («list_area» .entry)) (now («block_area» .entry)))) (areas (now (choice .entry)) (now («list_area» .entry)) (now («block_area» .entry))) ⌝ }
+        ≡ lent (now (answer .entry)) (partitionAreas (record { en = en; em = em; f = f }) (now (list .entry)) (now (version .entry)) (now (store .entry)) (areas (now (choice .entry)) (now («list_area» .entry)) (now («block_area» .entry)))) (areas (now (choice .entry)) (now («list_area» .entry)) (now («block_area» .entry))) ⌝ }
 {
     if answer.len() < 32 {
         return 9;
@@ -153,7 +153,7 @@ pub extern "C" fn pass(
 ) -> u32
     ensures answered { λ r. ⌜ Answered (passAnswer (record { en = en; em = em; f = f }) (now (list .entry)) (now (version .entry)) (now (store .entry)) (areas (now (choice .entry)) (now («list_area» .entry)) (now («block_area» .entry)))) (now (answer .entry)) r (now (answer .exit)) ⌝ }
     ensures areas_after { λ _. ⌜ areas (now (choice .exit)) (now («list_area» .exit)) (now («block_area» .exit))
-      ≡ lent (now (answer .entry)) (passAreas (record { en = en; em = em; f = f }) (now (list .entry)) (now (version .entry)) (now (store .entry)) (areas (now (choice .entry)) (now («list_area» .entry)) (now («block_area» .entry)))) (areas (now (choice .entry)) (now («list_area» .entry)) (now («block_area» .entry))) ⌝ }
+        ≡ lent (now (answer .entry)) (passAreas (record { en = en; em = em; f = f }) (now (list .entry)) (now (version .entry)) (now (store .entry)) (areas (now (choice .entry)) (now («list_area» .entry)) (now («block_area» .entry)))) (areas (now (choice .entry)) (now («list_area» .entry)) (now («block_area» .entry))) ⌝ }
 {
     if answer.len() < 32 {
         return 9;

@@ -31,11 +31,11 @@ pub fn demonstrate<'a>(
     ensures again { λ r. ⌜ Partitioned price (listWritten (r .first) (now (list1 .exit))) (now (version .entry)) (now (store .entry)) (areas (now (choice2 .entry)) (now (list2 .entry)) (now (block2 .entry))) (r .again) (areas (now (choice2 .exit)) (now (list2 .exit)) (now (block2 .exit))) ⌝ }
     ensures passed { λ r. ⌜ PassMade price (now (list .entry)) (now (version .entry)) (now (store .entry)) (areas (now (choice3 .entry)) (now (list3 .entry)) (now (block3 .entry))) (r .passed) (areas (now (choice3 .exit)) (now (list3 .exit)) (now (block3 .exit))) ⌝ }
     ensures holds { λ r. ⌜
-      Holds price (now (list .entry)) (now (version .entry)) (now (store .entry))
-      (callsOf r (areas (now (choice1 .entry)) (now (list1 .entry)) (now (block1 .entry))) (areas (now (choice1 .exit)) (now (list1 .exit)) (now (block1 .exit)))
-      (now (out .entry)) (now (out .exit))
-      (areas (now (choice2 .entry)) (now (list2 .entry)) (now (block2 .entry))) (areas (now (choice2 .exit)) (now (list2 .exit)) (now (block2 .exit)))
-      (areas (now (choice3 .entry)) (now (list3 .entry)) (now (block3 .entry))) (areas (now (choice3 .exit)) (now (list3 .exit)) (now (block3 .exit)))) ⌝ }
+        Holds price (now (list .entry)) (now (version .entry)) (now (store .entry))
+        (callsOf r (areas (now (choice1 .entry)) (now (list1 .entry)) (now (block1 .entry))) (areas (now (choice1 .exit)) (now (list1 .exit)) (now (block1 .exit)))
+        (now (out .entry)) (now (out .exit))
+        (areas (now (choice2 .entry)) (now (list2 .entry)) (now (block2 .entry))) (areas (now (choice2 .exit)) (now (list2 .exit)) (now (block2 .exit)))
+        (areas (now (choice3 .entry)) (now (list3 .entry)) (now (block3 .entry))) (areas (now (choice3 .exit)) (now (list3 .exit)) (now (block3 .exit)))) ⌝ }
 {
     let first = call_partition::partition(price, list, version, store, choice1, list1, block1);
     let figures = format::figures_of(first);

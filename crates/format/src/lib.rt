@@ -12,7 +12,9 @@ ghost use Rattle.format.specs.Meaning.{sizeOf};
 
 // The limits, in bytes: the longest version, the longest store, the longest list.
 pub const VERSION_MOST: usize = 16777216;
+
 pub const STORE_MOST: usize = 268435456;
+
 pub const LIST_MOST: usize = 49152;
 
 // What is at fault, in the order of the numbers 1 to 12 (`number`).

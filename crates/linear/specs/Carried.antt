@@ -11,7 +11,7 @@ use Rattle.choice.specs.Choice.{IsChoice}
 use Rattle.rules.specs.Rules.{Item}
 use Rattle.machine.specs.declared.Machine.{Machine}
 use Rattle.machine.specs.Looks.{rest, joined}
-use Rattle.machine.specs.Machine.{leftOf}
+use Rattle.machine.specs.Machine.{rearAt, leftOf}
 use Rattle.linear.specs.Pass.{choiceOf}
 
 -- the kind of a record in a cell: 0 new, 1 match, 2 a held match
@@ -25,7 +25,7 @@ endOf m = rest (joined (leftOf m) [])
 
 -- what reading off a choice asks for: a byte for each record, and items that cover the records
 pub record Covering (m : Machine) (list choice : List ℕ) : Type 0 where
-  pub within : m .left ≤ 4097
+  pub within : m .left ≤ rearAt
   pub list-most : length list ≤ 49152
   pub room : length (recordsOf list) ≤ length choice
   pub covered : IsChoice (recordsOf list) (choiceOf (recordsOf list) (endOf m))

@@ -55,7 +55,7 @@ fn load(list: &[u8]) -> Machine
     let mut kinds = [2u8; 4098];
     let mut sizes = [0u32; 4098];
     let mut i = n;
-    let mut right: usize = 4097;
+    let mut right: usize = machine::REAR;
     while 0 < i {
         i -= 1;
         let record = format::record_at(list, i);

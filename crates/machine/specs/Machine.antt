@@ -22,6 +22,10 @@ use Rattle.machine.specs.declared.Step.{Step}
 use Rattle.machine.specs.declared.Passed.{Passed}
 use Rattle.machine.specs.Looks.{bytes, State, first, rest, mergeIn, Look, lookAt, pass}
 
+-- the place of the rear mark: before it there is room for 4,096 records
+abbrev pub rearAt : ℕ
+rearAt = 4097
+
 -- the cell and the item at a place of two arrays
 abbrev pub cellAt : List ℕ → List ℕ → ℕ → Cell
 cellAt ks ss i = record { kind = getD ks i 0; size = getD ss i 0 }
@@ -36,7 +40,7 @@ below ks ss (suc i) = itemAt ks ss i ∷ below ks ss i
 
 -- the items from place i on, without the rear mark
 abbrev pub fromPlace : List ℕ → List ℕ → ℕ → List Item
-fromPlace ks ss i = from (itemAt ks ss) i (4097 - i)
+fromPlace ks ss i = from (itemAt ks ss) i (rearAt - i)
 
 -- what a machine holds: what comes before p, p and what comes after it, the item at a place, and the state
 abbrev pub leftOf : Machine → List Item
@@ -107,14 +111,14 @@ reach (Merged (Pair s)) = 2
 pub record Reaches (left right : ℕ) (o : Outcome) : Type 0 where
   pub gap : left ≤ right
   pub behind : mergeIn o ≤ left
-  pub ahead : right + reach o ≤ 4097
+  pub ahead : right + reach o ≤ rearAt
 
 -- a machine on which a look can be made
 pub record Ready (rates : Rates) (m : Machine) : Type 0 where
   pub rates-fit : RatesFit rates
   pub gap : m .left ≤ m .right
-  pub not-rear : m .right < 4097
-  pub rear : itemIn m 4097 ≡ mark
+  pub not-rear : m .right < rearAt
+  pub rear : itemIn m rearAt ≡ mark
   pub front : m .left ≡ 0 → isMatch (itemIn m (m .right)) ≡ false
   pub fits : bytes (leftOf m) + bytes (rightOf m) ≤ versionMost
 
@@ -130,16 +134,16 @@ pub record Looked (rates : Rates) (m : Machine) (s : Step) : Type 0 where
   pub one : s .looks ≡ 1
   pub same : s .list ≡ m
   pub is : lookOf s ≡ lookAt (testsOf rates) (leftOf m) (itemIn m (m .right)) (afterOf m)
-  pub placed : s .next .at < 4097
+  pub placed : s .next .at < rearAt
   pub gap : s .next .left ≤ s .next .right
-  pub within : s .next .right ≤ 4097
-  pub rear : itemIn (leftBy s) 4097 ≡ mark
+  pub within : s .next .right ≤ rearAt
+  pub rear : itemIn (leftBy s) rearAt ≡ mark
 
 -- a machine at the start of a pass: only the front mark comes before p
 pub record Loaded (m : Machine) (xs : List Item) : Type 0 where
   pub gap : m .left ≤ m .right
-  pub within : m .right ≤ 4097
-  pub rear : itemIn m 4097 ≡ mark
+  pub within : m .right ≤ rearAt
+  pub rear : itemIn m rearAt ≡ mark
   pub front : leftOf m ≡ mark ∷ []
   pub holds : rightOf m ≡ xs
 
@@ -154,4 +158,4 @@ pub record Ran (rates : Rates) (xs : List Item) (r : Passed) : Type 0 where
   pub looks-are : r .looks ≡ length (pass (testsOf rates) xs .outcomes)
   pub few-looks : r .looks ≤ 2 * length xs - 1
   pub list-is : leftOf (r .list) ≡ pass (testsOf rates) xs .end .left
-  pub within : r .list .left ≤ 4097
+  pub within : r .list .left ≤ rearAt

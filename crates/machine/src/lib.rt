@@ -5,13 +5,18 @@
 ghost use mathlib.Core.Path.{_≡_};
 ghost use Prim.Native.Nat.{_+_, _≤_, _<_};
 ghost use Rattle.rules.specs.Rules.{mark};
-ghost use Rattle.machine.specs.Machine.{cellAt, itemAt, rightOf, Sighted, goneOn, fusedBack, fusedAhead, moveOf, Reaches, Ready, Looked, Runnable, Ran};
+ghost use Rattle.machine.specs.Machine.{rearAt, cellAt, itemAt, rightOf, Sighted, goneOn, fusedBack, fusedAhead, moveOf, Reaches, Ready, Looked, Runnable, Ran};
 use price::Rates;
 use rules::Cell;
 use rules::Merge;
 use rules::Outcome;
 
-// The carried list: places 0 to left - 1 come before p, p stands at right, and place 4097 is the rear mark.
+// The place of the rear mark, and the one before it.
+pub const REAR: usize = 4097;
+
+const LAST: usize = REAR - 1;
+
+// The carried list: places 0 to left - 1 come before p, p stands at right, and place REAR is the rear mark.
 pub struct Machine {
     pub kinds: [u8; 4098],
     pub sizes: [u32; 4098],
@@ -64,7 +69,7 @@ fn cell_at<'a>(kinds: &'a [u8; 4098], sizes: &'a [u32; 4098], at: usize) -> Cell
 
 // What a look sees from a cursor: a mark where there is nothing.
 fn sight_of<'a>(kinds: &'a [u8; 4098], sizes: &'a [u32; 4098], left: usize, right: usize) -> Sight
-    requires { ⌜ (right < 4097) × (left ≤ right) × (itemAt (now kinds) (now sizes) 4097 ≡ mark) ⌝ }
+    requires { ⌜ (right < rearAt) × (left ≤ right) × (itemAt (now kinds) (now sizes) rearAt ≡ mark) ⌝ }
     ensures { λ r. ⌜ Sighted (now (kinds .entry)) (now (sizes .entry)) left right r ⌝ }
 {
     let mut before = Cell { kind: 2, size: 0 };
@@ -72,7 +77,7 @@ fn sight_of<'a>(kinds: &'a [u8; 4098], sizes: &'a [u32; 4098], left: usize, righ
         before = cell_at(kinds, sizes, left - 1);
     }
     let mut second = Cell { kind: 2, size: 0 };
-    if right < 4096 {
+    if right < LAST {
         second = cell_at(kinds, sizes, right + 2);
     }
     let p = cell_at(kinds, sizes, right);
@@ -87,7 +92,7 @@ fn sight_of<'a>(kinds: &'a [u8; 4098], sizes: &'a [u32; 4098], left: usize, righ
 
 // p goes to the one after.
 fn advanced(left: usize, right: usize, p: Cell) -> Move
-    requires { ⌜ (left ≤ right) × (right < 4097) ⌝ }
+    requires { ⌜ (left ≤ right) × (right < rearAt) ⌝ }
     ensures { λ r. ⌜ r ≡ goneOn left right p ⌝ }
 {
     Move {
@@ -101,7 +106,7 @@ fn advanced(left: usize, right: usize, p: Cell) -> Move
 
 // The one before p becomes `made`, and p goes `count` on.
 fn fused_back(left: usize, right: usize, p: Cell, made: Cell, count: usize) -> Move
-    requires { ⌜ (0 < left) × (right + count ≤ 4097) ⌝ }
+    requires { ⌜ (0 < left) × (right + count ≤ rearAt) ⌝ }
     ensures { λ r. ⌜ r ≡ fusedBack left right p made count ⌝ }
 {
     Move {
@@ -115,7 +120,7 @@ fn fused_back(left: usize, right: usize, p: Cell, made: Cell, count: usize) -> M
 
 // p and the one after it become `made`, and p goes to the one before.
 fn fused_ahead(left: usize, right: usize, before: Cell, made: Cell) -> Move
-    requires { ⌜ (0 < left) × (right < 4096) ⌝ }
+    requires { ⌜ (0 < left) × (right + 1 < rearAt) ⌝ }
     ensures { λ r. ⌜ r ≡ fusedAhead left right before made ⌝ }
 {
     Move {
@@ -168,7 +173,7 @@ pub fn run(machine: Machine, rates: Rates) -> Passed
 {
     let mut list = machine;
     let mut looks: u32 = 0;
-    while list.right < 4097 {
+    while list.right < REAR {
         let step = look(list, rates);
         list = step.list;
         looks += step.looks;
