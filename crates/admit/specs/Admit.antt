@@ -1,4 +1,4 @@
--- Partition and pass, document 01: their checks in their order; estimate and commit (document 02, S-7) make them too.
+-- Partition and pass: their checks in their order (clause 6.5); estimate and commit make them too.
 -- Assumes nothing.
 use Prim.Native.Nat.{ℕ, _/_}
 use mathlib.Core.Path.{_≡_}

@@ -1,4 +1,4 @@
--- The answer area of document 01, "The controller".
+-- The answer area (clauses 7.5 to 7.8).
 --
 --   OFFSET  SIZE  FIELD (lowest byte first; what a call does not give is 0)
 --   0       4     number: 0 accepted
@@ -21,7 +21,7 @@ use Rattle.format.specs.Refusal.{number}
 use Rattle.format.specs.Record.{word}
 use Rattle.answer.specs.declared.Told.{Told}
 
--- document 01's number and values for each answer
+-- the number and values for each answer (clause 12.5)
 abbrev pub toldOf : Answer → Told
 toldOf (Accepted x) =
     record { number = 0; place = 0; cost = x .cost; entries = x .entries; stored = x .stored; looks = x .looks; whole = x .whole }

@@ -1,4 +1,4 @@
--- The call partition of document 01: the answer, and every area after the call, for any inputs.
+-- The call partition (section 4.7): the answer, and every area after the call, for any inputs.
 -- Assumes nothing.
 use Prim.Native.Nat.{ℕ}
 use mathlib.Core.List.{List}

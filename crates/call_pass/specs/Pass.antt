@@ -1,4 +1,4 @@
--- The call pass of document 01: the answer, and every area after the call, for any inputs. Checks and writing are those of partition.
+-- The call pass (section 4.10): the answer, and every area after the call, for any inputs. Checks and writing are those of partition.
 -- Assumes nothing.
 use Prim.Native.Nat.{ℕ, _*_, _-_, _≤_}
 use mathlib.Core.List.{List}

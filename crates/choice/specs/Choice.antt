@@ -1,4 +1,4 @@
--- Document 01, "A choice", with document 02, S-4 and S-6: the choices for a list, the list of a choice, and the least choice.
+-- A choice (section 3): the choices for a list, the list of a choice, and the least choice.
 -- Assumes nothing.
 use Prim.Native.Nat.{ℕ, _+_, _≤_}
 use mathlib.Core.Path.{_≡_}

@@ -1,4 +1,4 @@
--- Document 02, S-6: "a held match is always kept".
+-- Clause 3.3: "a held match is always kept".
 -- Assumes nothing.
 use mathlib.Core.Path.{_≡_}
 use mathlib.Core.Bool.{true}

@@ -1,4 +1,4 @@
--- The call commit of document 02, S-7: it "takes list, version, store, price and a choice, and writes that choice's list and stored block with its
+-- The call commit (section 4.9, clause 5.12): it "takes list, version, store, price and a choice, and writes that choice's list and stored block with its
 -- entries, stored bytes and cost, least or not".
 -- Assumes nothing.
 use Prim.Native.Nat.{ℕ, suc, _/_}

@@ -1,4 +1,4 @@
--- The call compare of document 02: "The new call takes two lists, two stored blocks and one store".
+-- The call compare (section 4.6): "The new call takes two lists, two stored blocks and one store".
 -- Assumes nothing.
 use Prim.Native.Nat.{ℕ}
 use mathlib.Core.Bool.{Bool, true, false, cond}

@@ -1,5 +1,4 @@
--- The file price: "the price file holds EN, EM, F, 2 bytes each, and one of any length but 6 is bad"; lowest byte first (document
--- 01, "Sheets").
+-- The file price: "the price file holds EN, EM, F, 2 bytes each, and one of any length but 6 is bad"; lowest byte first.
 -- Assumes nothing.
 use Prim.Native.Nat.{ℕ, _+_, _*_}
 use mathlib.Core.Bool.{cond}

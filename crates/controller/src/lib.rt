@@ -1,4 +1,4 @@
-// The calls of documents 01 and 02 for a controller in C: numbers, byte areas, and an answer area whose first 32 bytes they fill.
+// The calls of section 4 for a controller in C (section 7): numbers, byte areas, and an answer area whose first 32 bytes they fill.
 //
 // Nothing is decided here. An answer area under 32 bytes gets 9 before the call is made, and nothing is written.
 ghost use mathlib.Core.Path.{_≡_};

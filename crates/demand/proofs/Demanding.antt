@@ -1,4 +1,4 @@
--- Demand 3 holds of any four calls that meet their contracts, in areas long enough for them.
+-- Section 8.1 holds of any four calls that meet their contracts, in areas long enough for them.
 -- Assumes nothing.
 use Prim.Native.Nat.{ℕ, _*_, _/_, _≤_}
 use native.Mathlib.Omega.{arith}

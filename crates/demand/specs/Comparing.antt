@@ -1,4 +1,4 @@
--- The laws of compare, document 02, by the contracts of the other calls: its refusals are check's; "It says yes exactly when both rebuild the same bytes",
+-- The laws of compare (section 8.3), by the contracts of the other calls: its refusals are check's; "It says yes exactly when both rebuild the same bytes",
 -- of rebuild's own writing; a list and itself; the order of the two; and what partition and pass wrote, beside any other list of the same version.
 -- Assumes nothing.
 use Prim.Native.Nat.{ℕ}

@@ -1,4 +1,4 @@
--- Demand 3 of the mission: one statement on the calls partition, rebuild and pass together.
+-- Section 8.1: one statement on the calls partition, rebuild and pass together.
 --
 -- In order: the four calls; that each is that call, by its own contract; room for each; the statement, a field for each sentence; the demand,
 -- closed: for every price, list, version and store, and for all answers and areas.
@@ -73,9 +73,9 @@ pub record Room (list v : List ℕ) (x : Calls) : Type 0 where
 pub record Demand (price : Price) (list v : List ℕ) (x : Calls) : Type 0 where
   -- the choice that partition writes
   pub choice : List Bit
-  -- "Where document 01 finds no fault in list, version, store, price and areas, partition accepts them"
+  -- clause 8.1.1: where no fault is found in list, version, store, price and areas, partition accepts them
   pub first-accepted : Accepts (x .first .answer)
-  -- "The list it writes is the one that document 01 makes of the choice it writes"
+  -- clause 8.1.2: the list it writes is the one that its choice makes
   pub first-written : x .first .after ≡ laid choice (listOf (recordsOf list) choice) v (x .first .before)
   -- "the entries, stored bytes and cost it gives are that list's"
   pub first-figures : figuresIn (x .first .answer) ≡ figures (ratesOf price) (listOf (recordsOf list) choice) 0
@@ -90,23 +90,23 @@ pub record Demand (price : Price) (list v : List ℕ) (x : Calls) : Type 0 where
   pub again-accepted : Accepts (x .again .answer)
   pub again-figures : figuresIn (x .again .answer) ≡ figuresIn (x .first .answer)
   pub again-written : x .again .after ≡ laid (keepAll (listOf (recordsOf list) choice)) (listOf (recordsOf list) choice) v (x .again .before)
-  -- "The pass, look by look the one that document 01 writes out and given what partition was first given"
+  -- clause 8.1.7: the pass, given what partition was first given
   pub passed-accepted : Accepts (x .passed .answer)
   pub passed-figures : figuresIn (x .passed .answer) ≡ figures (ratesOf price) (listOf (recordsOf list) (passChoiceOf price list)) (passLooksOf price list)
   pub passed-written : x .passed .after ≡ laid (passChoiceOf price list) (listOf (recordsOf list) (passChoiceOf price list)) v (x .passed .before)
   -- "costs no less than partition's list and no more than the list first handed in", as measure prices that one, record by record; nor more than it does
-  -- with its runs joined, which is no more (document 02, S-4)
+  -- with its runs joined, which is no more (clause 8.1.9)
   pub no-less : figuresIn (x .first .answer) .cost ≤ figuresIn (x .passed .answer) .cost
   pub no-more : figuresIn (x .passed .answer) .cost ≤ cost (ratesOf price) (recordsOf list)
   pub no-more-joined : figuresIn (x .passed .answer) .cost ≤ cost (ratesOf price) (tidy (recordsOf list))
-  -- "It counts at most 2n - 1 looks for n records, none for n = 0"; n "counts the records after joining" (S-4)
+  -- "It counts at most 2n - 1 looks for n records, none for n = 0"; n "counts the records after joining" (clause 8.1.10)
   pub few-looks : figuresIn (x .passed .answer) .looks ≤ 2 * length (tidy (recordsOf list)) - 1
 
 -- it holds of four calls where nothing is found in price, list, version and store, and the areas are long enough for them
 abbrev pub Holds : Price → List ℕ → List ℕ → List ℕ → Calls → Type 0
 Holds price list v st x = findings price list v st ≡ Fine → Room list v x → Demand price list v x
 
--- demand 3: it holds of any four that are these calls
+-- section 8.1: it holds of any four that are these calls
 abbrev pub DemandThree : Type 0
 DemandThree = (price : Price) (list v st : List ℕ) (x : Calls) → Made price list v st x → Holds price list v st x
 

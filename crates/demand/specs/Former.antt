@@ -1,5 +1,5 @@
--- Document 02, S-2: "With EN = EM the answers are the former ones". The former ones are said here a second time, without rates, as document 01 has them
--- with F in 256ths (S-1), and with runs joined (S-4): for one E, so that every entry, new or match, costs P = F × E.
+-- Clause 8.5.3: "With EN = EM the answers are the former ones". These are said here a second time, without rates, with F in 256ths
+-- and with runs joined: for one E, so that every entry, new or match, costs P = F × E.
 --
 -- In order: the former range, cost, least choice and pass; what measure, partition and pass answer and write at EN = EM, by their contracts.
 -- Assumes nothing.

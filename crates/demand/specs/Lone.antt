@@ -1,4 +1,4 @@
--- Document 02, S-2: "Storing a lone match between two kept ones may now be worth it; only partition does it".
+-- Clause 8.5.4: "Storing a lone match between two kept ones may now be worth it; only partition does it".
 -- Assumes nothing.
 use Prim.Native.Nat.{ℕ}
 use mathlib.Core.Path.{_≡_}

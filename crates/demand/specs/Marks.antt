@@ -1,4 +1,4 @@
--- Document 02, S-6, "Matches that must be held": what partition and pass make of held matches, by their contracts; and that measure, rebuild, check,
+-- Section 8.4, matches that must be held: what partition and pass make of held matches, by their contracts; and that measure, rebuild, check,
 -- show and compare "give the mark no meaning".
 -- Assumes nothing.
 use Prim.Native.Nat.{ℕ}

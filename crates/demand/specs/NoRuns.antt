@@ -1,5 +1,5 @@
--- Document 02, S-4: "The sheets hold, as none of their matches goes on in the store". So do all answers for such lists: the former rule is said here a
--- second time, as document 01 had it, and what partition and pass then gave.
+-- Clause 8.6.1: "The sheets hold, as none of their matches goes on in the store". So do all answers for such lists: the former rule is said here a
+-- second time, and what partition and pass then gave.
 --
 -- In order: the former rule, and by it the list of a choice, the least choice and the pass, each called plain; what partition and pass answer and
 -- write for a list of which no two neighbours join, by their contracts. (No two new records stand side by side in a list that is accepted, so only

@@ -1,4 +1,4 @@
--- Document 02, S-1: rates that are all multiplied by one number; and a factor of whole disk bytes, in 256ths, beside one in disk bytes.
+-- Clauses 8.5.1 and 8.5.2: rates that are all multiplied by one number; and a factor of whole disk bytes, in 256ths, beside one in disk bytes.
 --
 -- In order: the law of scaling; the rates in disk bytes; what measure, partition and pass answer and write at F = 256 × G, by their contracts.
 -- Assumes nothing.
@@ -37,8 +37,7 @@ ScalingLaw = (k : ℕ) (r : Rates) (rs : List Record) → 0 < k → Scales k r r
 
 -- ---- a factor of whole disk bytes
 
--- the rates for EN, EM and a factor of g disk bytes, in disk bytes: g × EN for a new entry, g × EM for a match, 1 for a stored byte; document 01's,
--- where EN = EM
+-- the rates for EN, EM and a factor of g disk bytes, in disk bytes: g × EN for a new entry, g × EM for a match, 1 for a stored byte
 abbrev pub wholeRates : ℕ → ℕ → ℕ → Rates
 wholeRates en em g = record { fresh = record { 0 = g * en }; kept = record { 0 = g * em }; byte = record { 0 = 1 } }
 

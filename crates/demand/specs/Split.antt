@@ -1,4 +1,4 @@
--- Document 02, S-7, "First an estimate, then the deposit": what an estimate with a commitment of its choice comes to beside partition, and what is so of
+-- Section 8.2, first an estimate, then the deposit: what an estimate with a commitment of its choice comes to beside partition, and what is so of
 -- every commitment.
 --
 -- In order: the two calls in turn; a call of commit by itself; the laws, a field for each; the two calls as one function makes them.

@@ -1,7 +1,7 @@
--- The worked examples as one table: the price and the list; the least choice and its cost; the pass's cost and looks. Document 01's (its sheets A to
--- J), at EN = EM = 10 and F 256; then one list at F 256, 384 and 512, where the factor between two whole ones has a least choice that neither of them
--- has; then lists at F 256 where a new entry is cheaper or dearer than a match; then lists where a match goes on in the store (document 02, S-4); then
--- lists with held matches (S-6). And the lists that some choices make of such lists.
+-- The worked examples as one table: the price and the list; the least choice and its cost; the pass's cost and looks. The sheets A to J
+-- (clause 10.1), at EN = EM = 10 and F 256; then one list at F 256, 384 and 512, where the factor between two whole ones has a least choice that neither of them
+-- has; then lists at F 256 where a new entry is cheaper or dearer than a match; then lists where a match goes on in the store (clause 10.4); then
+-- lists with held matches (clause 10.5). And the lists that some choices make of such lists.
 -- Assumes nothing.
 use Prim.Native.Nat.{ℕ, _*_}
 use mathlib.Core.Path.{_≡_}
@@ -31,7 +31,7 @@ worked p l c n m k = record { price = p; list = l; choice = c; cost = n; pass-co
 abbrev pub price : ℕ → ℕ → ℕ → Price
 price en em f = record { en = en; em = em; f = f }
 
--- an example of document 01, with its costs in disk bytes: "The sheets hold with F = 256 and every cost times 256"
+-- an example of clause 10.1, with its costs in disk bytes: "The sheets hold with F = 256 and every cost times 256"
 abbrev pub inBytes : List Record → List Bit → ℕ → ℕ → ℕ → Worked
 inBytes l c n m k = worked (price 10 10 256) l c (256 * n) (256 * m) k
 

@@ -1,4 +1,4 @@
-// The answers of calls that are made one after the other: for demand 3 of the mission, whose statement is `specs/Demand`, by the crate `demonstrate`;
+// The answers of calls that are made one after the other: for the laws of section 8.1, whose statement is `specs/Demand`, by the crate `demonstrate`;
 // and for partition in two steps, `specs/Split`, by the crate `split`.
 use format::Answer;
 

@@ -1,4 +1,4 @@
--- The call estimate of document 02, S-7: it gives cost, entries and stored bytes "as partition would, writes only the choice area and needs no other".
+-- The call estimate (section 4.8): it gives cost, entries and stored bytes "as partition would, writes only the choice area and needs no other".
 -- Assumes nothing.
 use Prim.Native.Nat.{ℕ}
 use mathlib.Core.Path.{_≡_}

@@ -1,4 +1,4 @@
--- The limits of document 01, "The list", in bytes.
+-- The limits of clauses 1.1 to 1.3, in bytes.
 -- Assumes nothing.
 use Prim.Native.Nat.{ℕ}
 

@@ -1,4 +1,4 @@
--- The 12-byte record of document 01, "The list": its bytes read and written, what is well formed by itself, and the records of a list.
+-- The 12-byte record (clauses 1.3 to 1.5 and 5.4): its bytes read and written, what is well formed by itself, and the records of a list.
 --
 --   OFFSET  SIZE  FIELD
 --   0       1     kind: 0 new, 1 match

@@ -1,4 +1,4 @@
--- Refusals: document 01's number of each fault, and checks that are made one after the other.
+-- Refusals: the number of each fault (section 5), and checks that are made one after the other.
 -- Assumes nothing.
 use Prim.Native.Nat.{ℕ}
 use mathlib.Core.Bool.{Bool, true, false}

@@ -1,4 +1,4 @@
--- Well-formed lists, as document 01 has them under "The list".
+-- Well-formed lists (clauses 1.7 to 1.10).
 -- Assumes nothing.
 use Prim.Native.Nat.{ℕ, _+_, _≤_}
 use mathlib.Core.Path.{_≡_}

@@ -1,5 +1,5 @@
--- Which neighbouring records join, and the tidy form of a list: document 01, "A choice", as document 02 has it since matches that go on in the store
--- are one record (S-4), and may be held (S-6).
+-- Which neighbouring records join, and the tidy form of a list: clauses 3.4 to 3.7
+-- and 3.12.
 -- Assumes nothing.
 use Prim.Native.Nat.{ℕ, _+_}
 use mathlib.Core.Path.{_≡_}

@@ -1,4 +1,4 @@
--- The pass over a list of records, as document 01 has it under "Pass": its looks are made on the tidy form of the list handed in ("the pass joins such
+-- The pass over a list of records (section 4.10): its looks are made on the tidy form of the list handed in ("the pass joins such
 -- runs first and then looks"), and a caller gets the outcomes of the looks, their number, the list at the end, and the choice that this list stands
 -- for. The looks themselves are those of the crate machine.
 -- Assumes nothing.

@@ -1,4 +1,4 @@
--- The program `partition`, document 01: the text that it writes for what its files hold.
+-- The program `partition` (section 9): the text that it writes for what its files hold.
 -- Assumes nothing.
 use Prim.Native.Nat.{ℕ, _+_, _*_, _/_, _≤_}
 use mathlib.Core.List.{List}

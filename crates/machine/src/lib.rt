@@ -1,4 +1,4 @@
-// The linear method of source document 001 as a machine: a list carried in a gap buffer, one look, and the run of looks.
+// The linear method (section 4.10) as a machine: a list carried in a gap buffer, one look, and the run of looks.
 //
 // In order: the carried list; what a look sees; the advance and the four merges; a look; the run.
 // Not here: the outcome of a look (the crate rules), and how a list comes onto the machine and a choice off it (the crate linear).

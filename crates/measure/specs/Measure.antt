@@ -1,4 +1,4 @@
--- The call measure, document 01.
+-- The call measure (section 4.2).
 -- Assumes nothing.
 use Prim.Native.Nat.{ℕ}
 use mathlib.Core.List.{List, []}

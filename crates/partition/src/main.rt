@@ -1,5 +1,5 @@
 // The program `partition`: reads the files price, items, version and store of the folder where it is run, and writes its text. Here it is run
-// on sheet C of document 01.
+// on sheet C (clause 10.1 of docs/SPECIFICATION.md).
 fn main() {
     let mut price = io::large_buffer();
     let mut items = io::large_buffer();

@@ -1,4 +1,4 @@
--- Document 01, "The price", as document 02 has it: F and all costs in 256ths of a disk byte (S-1), and new entries priced apart from matches (S-2).
+-- The price (section 2): F and all costs in 256ths of a disk byte, and new entries priced apart from matches.
 -- Assumes nothing.
 use Prim.Native.Nat.{ℕ, suc, _+_, _*_, _≤_, _<_}
 use mathlib.Core.Path.{_≡_}

@@ -1,4 +1,4 @@
--- A run of the program `partition`, document 01, "Sheets": its whole text, for what came of reading each of the four files.
+-- A run of the program `partition` (section 9): its whole text, for what came of reading each of the four files.
 -- Assumes nothing.
 use Prim.Native.Nat.{ℕ}
 use mathlib.Core.Bool.{cond}

@@ -1,4 +1,4 @@
--- The call rebuild of document 01: its checks in their order, its answer, and the area after it.
+-- The call rebuild (section 4.3): its checks in their order, its answer, and the area after it.
 -- Assumes nothing.
 use Prim.Native.Nat.{ℕ, _≤_}
 use mathlib.Core.Path.{_≡_}

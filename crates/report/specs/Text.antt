@@ -1,4 +1,4 @@
--- The text of the program `partition`, document 01, "Sheets": numbers in decimal, the line of a record, the line of figures, a refusal, a bad file.
+-- The text of the program `partition` (clauses 9.3 to 9.7): numbers in decimal, the line of a record, the line of figures, a refusal, a bad file.
 -- Assumes nothing.
 use Prim.Native.Nat.{ℕ, zero, suc, _+_, _/_, _%_}
 use mathlib.Core.Path.{_≡_}

@@ -49,7 +49,7 @@ pub record Tests : Type 0 where
   pub pair : ℕ → Bool
 
 -- what the merge stores costs less than what it spares: a match and a new entry in merge 1, a match in merges 2 and 3, two matches for a new
--- entry in merge 4. At a price's rates (document 02, S-2; `tests-at`): 256 × size < F × (EM + EN); 256 × size < F × EM; and
+-- entry in merge 4. At a price's rates (clauses 4.10.7 to 4.10.10; `tests-at`): 256 × size < F × (EM + EN); 256 × size < F × EM; and
 -- 256 × both sizes + F × EN < 2 × F × EM
 abbrev pub testsOf : Rates → Tests
 testsOf r =
@@ -59,7 +59,7 @@ testsOf r =
       pair = λ s. ltb (r .byte .0 * s + r .fresh .0) (2 * r .kept .0);
     }
 
--- how a look at p ends, with b before it, a after it and c second after it; a merge with the bytes that it fuses. As in document 01, but for what a
+-- how a look at p ends, with b before it, a after it and c second after it; a merge with the bytes that it fuses. As in clauses 4.10.7 to 4.10.11, but for what a
 -- merge needs of the sizes, which is in the tests:
 -- 1. "p is a match, both neighbours new"
 -- 2. "p is a match, the one before is new"

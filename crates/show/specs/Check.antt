@@ -1,4 +1,4 @@
--- The checks of a list, its stored block and a store, and the call check, document 01.
+-- The checks of a list, its stored block and a store, and the call check (section 4.4).
 -- Assumes nothing.
 use Prim.Native.Nat.{ℕ}
 use mathlib.Core.List.{List, []}

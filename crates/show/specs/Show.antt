@@ -1,4 +1,4 @@
--- The call show of document 01: which part, of which lent bytes.
+-- The call show (section 4.5): which part, of which lent bytes.
 -- Assumes nothing.
 use Prim.Native.Nat.{ℕ, _+_, _≤_}
 use mathlib.Core.List.{List}

@@ -1,4 +1,4 @@
--- Checks 4 to 8 of document 01, "Numbers by their cause", made record by record: which a call makes, and what the first that fails says.
+-- Checks 4 to 8 (clauses 5.4 to 5.8), made record by record: which a call makes, and what the first that fails says.
 -- Assumes nothing.
 use Prim.Native.Nat.{ℕ, _+_}
 use mathlib.Core.Bool.{Bool, false, not, _&&_, _||_, cond}

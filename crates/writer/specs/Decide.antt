@@ -1,4 +1,4 @@
--- Partition and pass, document 01: what both answer and write for a choice; estimate and commit (document 02, S-7) answer so too.
+-- Partition and pass: what both answer and write for a choice (clauses 4.7.2 to 4.7.4); estimate and commit answer so too.
 -- Assumes nothing.
 use Prim.Native.Nat.{ℕ}
 use mathlib.Core.Path.{_≡_}

@@ -1,5 +1,5 @@
 -- `demonstrate::demonstrate` meets its contract: what partition says it wrote is there, and is handed on; each call's contract is the call's own, and
--- demand 3 follows from them. Assumes nothing.
+-- section 8.1 follows from them. Assumes nothing.
 use Prim.Native.Nat.{_*_, _-_}
 use native.Mathlib.Omega.{arith}
 use mathlib.Core.Path.{_≡_, _∙_, ap}
