@@ -41,6 +41,7 @@ pub struct Totals {
     pub whole: u32,
 }
 
+// What a walk comes to: the totals of a list that it went through, or the refusal at which it stopped.
 pub enum Walked {
     Through(Totals),
     Stopped(Refusal),

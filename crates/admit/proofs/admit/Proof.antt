@@ -10,14 +10,8 @@ use Rattle.admit.proofs.admit.Tie as tie
 first-checks-requires : tie.Need-first-checks-requires
 first-checks-requires c κs = search needs
 
-enum-known-first : tie.Need-enum-known-first
-enum-known-first c = search needs
-
 returns : tie.Need-returns
 returns c = rw (sym (c .before .before .before .first-checks .ensures) ∙ c .before .first .given .1)
-
-enum-told : tie.Need-enum-told
-enum-told c = search needs
 
 -- checks 1, 2 and 3 have passed; so has check 9
 passed : (c : tie.After-enum-told) → let g = c .before .before .before .before .before .before .args in firstRuling (g .price) (g .list .now) (g .version .now) (g .store .now) ≡ Fine
@@ -30,14 +24,8 @@ roomy c = sym (c .before .before .rooms .ensures) ∙ c .enum-told2 .given .1
 rooms-requires : tie.Need-rooms-requires
 rooms-requires c κs = search needs
 
-enum-known-nine : tie.Need-enum-known-nine
-enum-known-nine c = search needs
-
 returns-2 : tie.Need-returns-2
 returns-2 c = rw (passed (c .before .before .before .before), sym (c .before .before .before .rooms .ensures) ∙ c .before .nine .given .1)
-
-enum-told-2 : tie.Need-enum-told-2
-enum-told-2 c = search needs
 
 cover-requires : tie.Need-cover-requires
 cover-requires c κs =
@@ -53,12 +41,12 @@ admit-spec =
     tie.close
     (tie.spec
     first-checks-requires
-    enum-known-first
+    (λ c. search needs)
     returns
-    enum-told
+    (λ c. search needs)
     rooms-requires
-    enum-known-nine
+    (λ c. search needs)
     returns-2
-    enum-told-2
+    (λ c. search needs)
     cover-requires
     returns-3)

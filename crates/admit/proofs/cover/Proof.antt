@@ -17,12 +17,6 @@ use Rattle.admit.proofs.cover.Tie as tie
 walk-requires : tie.Need-walk-requires
 walk-requires c κs = search needs
 
-enum-known-w : tie.Need-enum-known-w
-enum-known-w c = search needs
-
-enum-told : tie.Need-enum-told
-enum-told c = search needs
-
 returns : tie.Need-returns
 returns c =
     let g = c .before .before .before .before .before .before .args in
@@ -61,8 +55,8 @@ cover-spec =
     tie.close
     (tie.spec
     walk-requires
-    enum-known-w
-    enum-told
+    (λ c. search needs)
+    (λ c. search needs)
     returns
     index-requires
     stopped-requires

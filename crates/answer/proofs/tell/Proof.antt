@@ -3,14 +3,8 @@ use borrow.Author.Needs.{needs}
 use Rattle.answer.proofs.tell.Statement.{statement}
 use Rattle.answer.proofs.tell.Tie as tie
 
-enum-known-a : tie.Need-enum-known-a
-enum-known-a c = search needs
-
 tell-accepted-requires : tie.Need-tell-accepted-requires
 tell-accepted-requires c κs = search needs
-
-enum-known-a-2 : tie.Need-enum-known-a-2
-enum-known-a-2 c = search needs
 
 number-of-requires : tie.Need-number-of-requires
 number-of-requires c κs = search needs
@@ -22,4 +16,4 @@ returns-2 : tie.Need-returns-2
 returns-2 c = rw (c .before .before .a2 .given .1, c .number-of .ensures)
 
 pub tell-spec : {M : Type 1} → statement M
-tell-spec = tie.close (tie.spec enum-known-a tell-accepted-requires enum-known-a-2 number-of-requires returns returns-2)
+tell-spec = tie.close (tie.spec (λ c. search needs) tell-accepted-requires (λ c. search needs) number-of-requires returns returns-2)

@@ -29,9 +29,6 @@ put-plain-requires c κs =
     let copy = c .before .before .before .copy in
     omega (arith, ap length (copied-front (c .before .before .before .before .before .before .before .args .src .now) _ _ (copy .result) (copy .ensures .0) (copy .ensures .1)))
 
-same-length : tie.Need-same-length
-same-length c = search needs
-
 returns : tie.Need-returns
 returns c =
     let g = c .before .before .before .before .before .before .before .before .before .before .args in
@@ -48,5 +45,5 @@ put-block-spec =
     array-share-prefix-block
     slice-aggregate-put-plain
     put-plain-requires
-    same-length
+    (λ c. search needs)
     returns)

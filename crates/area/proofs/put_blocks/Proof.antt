@@ -66,9 +66,6 @@ part-put-block-end-2 c = search needs
 put-block-requires-2 : tie.Need-put-block-requires-2 Inv-loop μ-loop
 put-block-requires-2 c κs = search needs
 
-same-length : tie.Need-same-length Inv-loop μ-loop
-same-length c = search needs
-
 returns : tie.Need-returns Inv-loop μ-loop
 returns c =
     let g = c .before .before .before .before .before .before .before .before .before .args in
@@ -97,5 +94,5 @@ put-blocks-spec =
     part-put-block-start-2
     part-put-block-end-2
     put-block-requires-2
-    same-length
+    (λ c. search needs)
     returns)

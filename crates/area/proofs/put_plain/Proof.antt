@@ -17,12 +17,9 @@ part-copy-end c = search needs
 copy-requires : tie.Need-copy-requires
 copy-requires c κs = search needs
 
-same-length : tie.Need-same-length
-same-length c = search needs
-
 returns : tie.Need-returns
 returns c = pasted-of-copied (c .before .before .before .before .before .before .args .at) (c .before .before .before .before .before .before .args .src .now) (c .before .before .before .before .before .before .args .area .now) (c .before .before .copy .last .1 .0) (omega arith) (c .before .before .copy .ensures .1)
 
 pub put-plain-spec : {M : Type 1} → statement M
 put-plain-spec =
-    tie.close (tie.spec sub-copy part-copy-start part-copy-end copy-requires same-length returns)
+    tie.close (tie.spec sub-copy part-copy-start part-copy-end copy-requires (λ c. search needs) returns)

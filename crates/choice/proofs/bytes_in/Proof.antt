@@ -6,14 +6,8 @@ use borrow.Author.Needs.{needs}
 use Rattle.choice.proofs.bytes_in.Statement.{statement}
 use Rattle.choice.proofs.bytes_in.Tie as tie
 
-enum-known-record : tie.Need-enum-known-record
-enum-known-record c = search needs
-
 storing-requires : tie.Need-storing-requires
 storing-requires c κs = search needs
-
-enum-told : tie.Need-enum-told
-enum-told c = search needs
 
 returns : tie.Need-returns
 returns c =
@@ -24,4 +18,4 @@ returns-2 : tie.Need-returns-2
 returns-2 c = search needs
 
 pub bytes-in-spec : {M : Type 1} → statement M
-bytes-in-spec = tie.close (tie.spec enum-known-record storing-requires enum-told returns returns-2)
+bytes-in-spec = tie.close (tie.spec (λ c. search needs) storing-requires (λ c. search needs) returns returns-2)

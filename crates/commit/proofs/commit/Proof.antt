@@ -20,12 +20,6 @@ use Rattle.commit.proofs.commit.Tie as tie
 admit-requires : tie.Need-admit-requires
 admit-requires c κs = search needs
 
-enum-known-w : tie.Need-enum-known-w
-enum-known-w c = search needs
-
-enum-told : tie.Need-enum-told
-enum-told c = search needs
-
 refusal-of-requires : tie.Need-refusal-of-requires
 refusal-of-requires c κs = search needs
 
@@ -48,18 +42,12 @@ allowed c = sym (c .before .before .check-choice .ensures) ∙ c .enum-told2 .gi
 check-choice-requires : tie.Need-check-choice-requires
 check-choice-requires c κs = passed (c .before) .sound .fits .counted .list-most
 
-enum-known-refusal : tie.Need-enum-known-refusal
-enum-known-refusal c = search needs
-
 returns-2 : tie.Need-returns-2
 returns-2 c =
     let g = c .before .before .before .before .before .before .before .before .before .before .before .before .before .before .args in
     let stop = sym (c .before .before .before .check-choice .ensures) ∙ c .before .refusal .given .1 in
     let refused = stopped-by-choice (g .price) (g .list .now) (g .version .now) (g .store .now) (g .choice .now) (g .list-area .now) (g .block-area .now) (passed (c .before .before .before .before .before) .fine) stop refl in
     (refused .answered, (refused .list-after, refused .block-after))
-
-enum-told-2 : tie.Need-enum-told-2
-enum-told-2 c = search needs
 
 rates-of-requires : tie.Need-rates-of-requires
 rates-of-requires c κs = search needs
@@ -69,12 +57,6 @@ finish-requires c κs =
     let g = c .before .before .before .before .before .before .before .before .before .before .before .before .before .before .before .before .args in
     let n = length-of-fine (g .list .now) (g .choice .now) (allowed (c .before .before .before)) in
     finishable (passed (c .before .before .before .before .before .before .before) .sound) (c .before .before .rates-of .ensures) (omega (arith, n, length-recordsOf (g .list .now)))
-
-same-length : tie.Need-same-length
-same-length c = search needs
-
-same-length-2 : tie.Need-same-length-2
-same-length-2 c = search needs
 
 returns-3 : tie.Need-returns-3
 returns-3 c =
@@ -88,16 +70,16 @@ commit-spec =
     tie.close
     (tie.spec
     admit-requires
-    enum-known-w
-    enum-told
+    (λ c. search needs)
+    (λ c. search needs)
     refusal-of-requires
     returns
     check-choice-requires
-    enum-known-refusal
+    (λ c. search needs)
     returns-2
-    enum-told-2
+    (λ c. search needs)
     rates-of-requires
     finish-requires
-    same-length
-    same-length-2
+    (λ c. search needs)
+    (λ c. search needs)
     returns-3)

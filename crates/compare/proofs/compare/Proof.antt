@@ -12,12 +12,6 @@ use Rattle.compare.proofs.compare.Tie as tie
 accept-requires : tie.Need-accept-requires
 accept-requires c κs = search needs
 
-enum-known-v : tie.Need-enum-known-v
-enum-known-v c = search needs
-
-enum-told : tie.Need-enum-told
-enum-told c = search needs
-
 refusal-of-requires : tie.Need-refusal-of-requires
 refusal-of-requires c κs = search needs
 
@@ -28,12 +22,6 @@ returns c =
 
 accept-requires-2 : tie.Need-accept-requires-2
 accept-requires-2 c κs = search needs
-
-enum-known-w : tie.Need-enum-known-w
-enum-known-w c = search needs
-
-enum-told-2 : tie.Need-enum-told-2
-enum-told-2 c = search needs
 
 refusal-of-requires-2 : tie.Need-refusal-of-requires-2
 refusal-of-requires-2 c κs = search needs
@@ -88,13 +76,13 @@ compare-spec =
     tie.close
     (tie.spec
     accept-requires
-    enum-known-v
-    enum-told
+    (λ c. search needs)
+    (λ c. search needs)
     refusal-of-requires
     returns
     accept-requires-2
-    enum-known-w
-    enum-told-2
+    (λ c. search needs)
+    (λ c. search needs)
     refusal-of-requires-2
     returns-2
     entries-only-requires

@@ -15,15 +15,6 @@ commit-requires c κs = search needs
 give-requires : tie.Need-give-requires
 give-requires c κs = search needs
 
-same-length : tie.Need-same-length
-same-length c = search needs
-
-same-length-2 : tie.Need-same-length-2
-same-length-2 c = search needs
-
-same-length-3 : tie.Need-same-length-3
-same-length-3 c = search needs
-
 returns-2 : tie.Need-returns-2
 returns-2 c =
     let g = c .before .before .before .before .before .before .before .before .before .before .before .before .before .before .before .before .before .before .before .args in
@@ -32,4 +23,4 @@ returns-2 c =
     (answered-given long (made .0) (c .before .before .give .ensures), (lent-given _ (g .list-area .now) (g .answer .now) long (made .1 .0), lent-given _ (g .block-area .now) (g .answer .now) long (made .1 .1)))
 
 pub commit-spec : {M : Type 1} → statement M
-commit-spec = tie.close (tie.spec returns commit-requires give-requires same-length same-length-2 same-length-3 returns-2)
+commit-spec = tie.close (tie.spec returns commit-requires give-requires (λ c. search needs) (λ c. search needs) (λ c. search needs) returns-2)

@@ -13,11 +13,8 @@ compare-requires c κs = search needs
 give-requires : tie.Need-give-requires
 give-requires c κs = search needs
 
-same-length : tie.Need-same-length
-same-length c = search needs
-
 returns-2 : tie.Need-returns-2
 returns-2 c = answered-given (c .before .before .before .before .before .if1 .left) (c .before .before .before .before .compare .ensures) (c .before .before .give .ensures)
 
 pub compare-spec : {M : Type 1} → statement M
-compare-spec = tie.close (tie.spec returns compare-requires give-requires same-length returns-2)
+compare-spec = tie.close (tie.spec returns compare-requires give-requires (λ c. search needs) returns-2)

@@ -13,11 +13,8 @@ measure-requires c κs = search needs
 give-requires : tie.Need-give-requires
 give-requires c κs = search needs
 
-same-length : tie.Need-same-length
-same-length c = search needs
-
 returns-2 : tie.Need-returns-2
 returns-2 c = answered-given (c .before .before .before .before .before .if1 .left) (c .before .before .before .before .measure .ensures) (c .before .before .give .ensures)
 
 pub measure-spec : {M : Type 1} → statement M
-measure-spec = tie.close (tie.spec returns measure-requires give-requires same-length returns-2)
+measure-spec = tie.close (tie.spec returns measure-requires give-requires (λ c. search needs) returns-2)

@@ -13,18 +13,6 @@ pass-requires c κs = search needs
 give-requires : tie.Need-give-requires
 give-requires c κs = search needs
 
-same-length : tie.Need-same-length
-same-length c = search needs
-
-same-length-2 : tie.Need-same-length-2
-same-length-2 c = search needs
-
-same-length-3 : tie.Need-same-length-3
-same-length-3 c = search needs
-
-same-length-4 : tie.Need-same-length-4
-same-length-4 c = search needs
-
 returns-2 : tie.Need-returns-2
 returns-2 c =
     let made = c .before .before .before .before .before .before .before .before .before .before .pass .ensures in
@@ -37,8 +25,8 @@ pass-spec =
     returns
     pass-requires
     give-requires
-    same-length
-    same-length-2
-    same-length-3
-    same-length-4
+    (λ c. search needs)
+    (λ c. search needs)
+    (λ c. search needs)
+    (λ c. search needs)
     returns-2)

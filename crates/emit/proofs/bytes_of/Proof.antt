@@ -4,14 +4,8 @@ use borrow.Author.Needs.{needs}
 use Rattle.emit.proofs.bytes_of.Statement.{statement}
 use Rattle.emit.proofs.bytes_of.Tie as tie
 
-enum-known-record : tie.Need-enum-known-record
-enum-known-record c = search needs
-
 record-bytes-requires : tie.Need-record-bytes-requires
 record-bytes-requires c κs = search needs
-
-enum-known-record-2 : tie.Need-enum-known-record-2
-enum-known-record-2 c = search needs
 
 mark-byte-requires : tie.Need-mark-byte-requires
 mark-byte-requires c κs = search needs
@@ -29,9 +23,9 @@ pub bytes-of-spec : {M : Type 1} → statement M
 bytes-of-spec =
     tie.close
     (tie.spec
-    enum-known-record
+    (λ c. search needs)
     record-bytes-requires
-    enum-known-record-2
+    (λ c. search needs)
     mark-byte-requires
     record-bytes-requires-2
     returns

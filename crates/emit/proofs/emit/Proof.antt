@@ -7,12 +7,6 @@ use borrow.Author.Needs.{needs}
 use Rattle.emit.proofs.emit.Statement.{statement}
 use Rattle.emit.proofs.emit.Tie as tie
 
-enum-known-last : tie.Need-enum-known-last
-enum-known-last c = search needs
-
-enum-told : tie.Need-enum-told
-enum-told c = search needs
-
 returns : tie.Need-returns
 returns c =
     let g = c .before .before .before .args in
@@ -46,9 +40,6 @@ put-record-requires c κs =
 add-t14 : tie.Need-add-t14
 add-t14 c = search needs
 
-same-length : tie.Need-same-length
-same-length c = search needs
-
 returns-3 : tie.Need-returns-3
 returns-3 c =
     let d = c .before .before .before in
@@ -61,8 +52,8 @@ pub emit-spec : {M : Type 1} → statement M
 emit-spec =
     tie.close
     (tie.spec
-    enum-known-last
-    enum-told
+    (λ c. search needs)
+    (λ c. search needs)
     returns
     joins-requires
     size-of-requires
@@ -70,5 +61,5 @@ emit-spec =
     returns-2
     put-record-requires
     add-t14
-    same-length
+    (λ c. search needs)
     returns-3)

@@ -12,12 +12,6 @@ use borrow.Author.Needs.{needs}
 use Rattle.emit.proofs.flush.Statement.{statement}
 use Rattle.emit.proofs.flush.Tie as tie
 
-enum-known-last : tie.Need-enum-known-last
-enum-known-last c = search needs
-
-enum-told : tie.Need-enum-told
-enum-told c = search needs
-
 returns : tie.Need-returns
 returns c =
     let g = c .before .before .before .args in
@@ -36,9 +30,6 @@ put-record-requires c κs = room (c .before .before)
 add-result : tie.Need-add-result
 add-result c = omega (arith, room (c .before .before .before .before .before))
 
-same-length : tie.Need-same-length
-same-length c = search needs
-
 returns-2 : tie.Need-returns-2
 returns-2 c =
     let l = c .before .before .before .before .before in
@@ -48,10 +39,10 @@ pub flush-spec : {M : Type 1} → statement M
 flush-spec =
     tie.close
     (tie.spec
-    enum-known-last
-    enum-told
+    (λ c. search needs)
+    (λ c. search needs)
     returns
     put-record-requires
     add-result
-    same-length
+    (λ c. search needs)
     returns-2)

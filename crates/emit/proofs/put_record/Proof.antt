@@ -16,9 +16,6 @@ slice-aggregate-put-plain c = search needs
 put-plain-requires : tie.Need-put-plain-requires
 put-plain-requires c κs = search needs
 
-same-length : tie.Need-same-length
-same-length c = search needs
-
 returns : tie.Need-returns
 returns c =
     let g = c .before .before .before .before .before .before .before .args in
@@ -26,4 +23,4 @@ returns c =
 
 pub put-record-spec : {M : Type 1} → statement M
 put-record-spec =
-    tie.close (tie.spec bytes-of-requires slice-aggregate-put-plain put-plain-requires same-length returns)
+    tie.close (tie.spec bytes-of-requires slice-aggregate-put-plain put-plain-requires (λ c. search needs) returns)

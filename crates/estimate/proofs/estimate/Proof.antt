@@ -14,12 +14,6 @@ use Rattle.estimate.proofs.estimate.Tie as tie
 admit-requires : tie.Need-admit-requires
 admit-requires c κs = search needs
 
-enum-known-w : tie.Need-enum-known-w
-enum-known-w c = search needs
-
-enum-told : tie.Need-enum-told
-enum-told c = search needs
-
 refusal-of-requires : tie.Need-refusal-of-requires
 refusal-of-requires c κs = search needs
 
@@ -53,9 +47,6 @@ count-requires c κs =
       whole-most = omega (arith, s .covered .whole-is, s .fits .version-most);
     }
 
-same-length : tie.Need-same-length
-same-length c = search needs
-
 returns-2 : tie.Need-returns-2
 returns-2 c =
     let g = c .before .before .before .before .before .before .before .before .before .before .before .before .before .before .before .args in
@@ -68,12 +59,12 @@ estimate-spec =
     tie.close
     (tie.spec
     admit-requires
-    enum-known-w
-    enum-told
+    (λ c. search needs)
+    (λ c. search needs)
     refusal-of-requires
     returns
     rates-of-requires
     least-choice-requires
     count-requires
-    same-length
+    (λ c. search needs)
     returns-2)

@@ -4,12 +4,6 @@ use borrow.Author.Needs.{needs}
 use Rattle.estimate.proofs.stored_in.Statement.{statement}
 use Rattle.estimate.proofs.stored_in.Tie as tie
 
-enum-known-record : tie.Need-enum-known-record
-enum-known-record c = search needs
-
-enum-told : tie.Need-enum-told
-enum-told c = search needs
-
 returns : tie.Need-returns
 returns c = rw (c .before .«record» .given .1) (omega arith)
 
@@ -17,4 +11,4 @@ returns-2 : tie.Need-returns-2
 returns-2 c = search needs
 
 pub stored-in-spec : {M : Type 1} → statement M
-stored-in-spec = tie.close (tie.spec enum-known-record enum-told returns returns-2)
+stored-in-spec = tie.close (tie.spec (λ c. search needs) (λ c. search needs) returns returns-2)

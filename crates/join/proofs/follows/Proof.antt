@@ -4,12 +4,6 @@ use borrow.Author.Needs.{needs}
 use Rattle.join.proofs.follows.Statement.{statement}
 use Rattle.join.proofs.follows.Tie as tie
 
-enum-known-last : tie.Need-enum-known-last
-enum-known-last c = search needs
-
-enum-told : tie.Need-enum-told
-enum-told c = search needs
-
 returns : tie.Need-returns
 returns c = search needs
 
@@ -20,4 +14,4 @@ returns-2 : tie.Need-returns-2
 returns-2 c = c .joins .ensures ∙ rw (c .before .before .last .given .1)
 
 pub follows-spec : {M : Type 1} → statement M
-follows-spec = tie.close (tie.spec enum-known-last enum-told returns joins-requires returns-2)
+follows-spec = tie.close (tie.spec (λ c. search needs) (λ c. search needs) returns joins-requires returns-2)

@@ -4,14 +4,8 @@ use borrow.Author.Needs.{needs}
 use Rattle.join.proofs.grown.Statement.{statement}
 use Rattle.join.proofs.grown.Tie as tie
 
-enum-known-record : tie.Need-enum-known-record
-enum-known-record c = search needs
-
 add-t7 : tie.Need-add-t7
 add-t7 c = let most = rw (c .before .«record» .given .1) at (c .before .before .before .pre) in omega (arith, most)
-
-enum-known-record-2 : tie.Need-enum-known-record-2
-enum-known-record-2 c = search needs
 
 add-t8 : tie.Need-add-t8
 add-t8 c = let most = rw (c .before .record2 .given .1) at (c .before .before .before .pre) in omega (arith, most)
@@ -24,4 +18,4 @@ returns-2 c = rw (c .before .record2 .given .1)
 
 pub grown-spec : {M : Type 1} → statement M
 grown-spec =
-    tie.close (tie.spec enum-known-record add-t7 enum-known-record-2 add-t8 returns returns-2)
+    tie.close (tie.spec (λ c. search needs) add-t7 (λ c. search needs) add-t8 returns returns-2)

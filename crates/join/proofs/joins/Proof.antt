@@ -3,24 +3,6 @@ use borrow.Author.Needs.{needs}
 use Rattle.join.proofs.joins.Statement.{statement}
 use Rattle.join.proofs.joins.Tie as tie
 
-enum-told : tie.Need-enum-told
-enum-told c = search needs
-
-enum-told-2 : tie.Need-enum-told-2
-enum-told-2 c = search needs
-
-enum-told-3 : tie.Need-enum-told-3
-enum-told-3 c = search needs
-
-enum-known-first : tie.Need-enum-known-first
-enum-known-first c = search needs
-
-enum-told-4 : tie.Need-enum-told-4
-enum-told-4 c = search needs
-
-enum-known-second : tie.Need-enum-known-second
-enum-known-second c = search needs
-
 goes-on-requires : tie.Need-goes-on-requires
 goes-on-requires c κs = search needs
 
@@ -40,12 +22,12 @@ pub joins-spec : {M : Type 1} → statement M
 joins-spec =
     tie.close
     (tie.spec
-    enum-told
-    enum-told-2
-    enum-told-3
-    enum-known-first
-    enum-told-4
-    enum-known-second
+    (λ c. search needs)
+    (λ c. search needs)
+    (λ c. search needs)
+    (λ c. search needs)
+    (λ c. search needs)
+    (λ c. search needs)
     goes-on-requires
     returns
     returns-2

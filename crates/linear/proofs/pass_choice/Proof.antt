@@ -29,9 +29,6 @@ read-off-requires c κs =
     let choice = pass-holds (g .rates) rs (c .before .before .before .before .before .pre .sized) .choice in
     record { within = c .before .run .ensures .within; list-most = c .before .before .before .before .before .pre .list-most; room = c .before .before .before .before .before .pre .room; covered = rw same choice }
 
-same-length : tie.Need-same-length
-same-length c = search needs
-
 returns : tie.Need-returns
 returns c =
     let u = c .before .before .before .before in
@@ -48,4 +45,4 @@ returns c =
 
 pub pass-choice-spec : {M : Type 1} → statement M
 pass-choice-spec =
-    tie.close (tie.spec load-requires run-requires read-off-requires same-length returns)
+    tie.close (tie.spec load-requires run-requires read-off-requires (λ c. search needs) returns)

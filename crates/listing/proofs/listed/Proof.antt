@@ -12,14 +12,8 @@ use Rattle.listing.proofs.listed.Tie as tie
 partition-requires : tie.Need-partition-requires
 partition-requires c κs = search needs
 
-enum-known-answer : tie.Need-enum-known-answer
-enum-known-answer c = search needs
-
 refusal-requires : tie.Need-refusal-requires
 refusal-requires c κs = search needs
-
-enum-known-answer-2 : tie.Need-enum-known-answer-2
-enum-known-answer-2 c = search needs
 
 index-requires : tie.Need-index-requires
 index-requires c κs = search needs
@@ -48,36 +42,12 @@ report-requires c κs =
     let made = partitioned (g .price) (g .list .now) (g .version .now) (g .store .now) (areas (g .choice .now) (g .list-area .now) (g .block-area .now)) (c .before .before .before .before .before .before .before .before .before .before .before .before .before .partition .ensures) in
     text-room (g .price) (g .store .now) (s .pre) made (c .before .before .before .before .before .answer2 .given .1) (12 * c .before .before .before .index .result - 0) (omega (arith, c .before .before .before .index .ensures .0))
 
-same-length : tie.Need-same-length
-same-length c = search needs
-
-same-length-2 : tie.Need-same-length-2
-same-length-2 c = search needs
-
-same-length-3 : tie.Need-same-length-3
-same-length-3 c = search needs
-
-same-length-4 : tie.Need-same-length-4
-same-length-4 c = search needs
-
 returns : tie.Need-returns
 returns c =
     let s = c .before .before .before .before .before .before .before .before .before .before .before .before .before .before .before .before .before .before .before .before .before .before .before .before in
     let g = s .args in
     let made = partitioned (g .price) (g .list .now) (g .version .now) (g .store .now) (areas (g .choice .now) (g .list-area .now) (g .block-area .now)) (c .before .before .before .before .before .before .before .before .before .before .before .before .before .partition .ensures) in
     rw (stop-of-answer (g .price) (g .store .now) (s .pre) made (c .before .before .before .before .before .answer .given .1)) (c .before .before .refusal .ensures)
-
-same-length-5 : tie.Need-same-length-5
-same-length-5 c = search needs
-
-same-length-6 : tie.Need-same-length-6
-same-length-6 c = search needs
-
-same-length-7 : tie.Need-same-length-7
-same-length-7 c = search needs
-
-same-length-8 : tie.Need-same-length-8
-same-length-8 c = search needs
 
 returns-2 : tie.Need-returns-2
 returns-2 c =
@@ -91,22 +61,22 @@ listed-spec =
     tie.close
     (tie.spec
     partition-requires
-    enum-known-answer
+    (λ c. search needs)
     refusal-requires
-    enum-known-answer-2
+    (λ c. search needs)
     index-requires
     mul-n
     sub-report
     part-report-start
     part-report-end
     report-requires
-    same-length
-    same-length-2
-    same-length-3
-    same-length-4
+    (λ c. search needs)
+    (λ c. search needs)
+    (λ c. search needs)
+    (λ c. search needs)
     returns
-    same-length-5
-    same-length-6
-    same-length-7
-    same-length-8
+    (λ c. search needs)
+    (λ c. search needs)
+    (λ c. search needs)
+    (λ c. search needs)
     returns-2)

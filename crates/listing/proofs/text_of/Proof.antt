@@ -9,29 +9,11 @@ use Rattle.listing.proofs.text_of.Tie as tie
 pass-requires : tie.Need-pass-requires
 pass-requires c κs = search needs
 
-enum-known-answer : tie.Need-enum-known-answer
-enum-known-answer c = search needs
-
 refusal-requires : tie.Need-refusal-requires
 refusal-requires c κs = search needs
 
-enum-known-answer-2 : tie.Need-enum-known-answer-2
-enum-known-answer-2 c = search needs
-
 listed-requires : tie.Need-listed-requires
 listed-requires c κs = search needs
-
-same-length : tie.Need-same-length
-same-length c = search needs
-
-same-length-2 : tie.Need-same-length-2
-same-length-2 c = search needs
-
-same-length-3 : tie.Need-same-length-3
-same-length-3 c = search needs
-
-same-length-4 : tie.Need-same-length-4
-same-length-4 c = search needs
 
 returns : tie.Need-returns
 returns c =
@@ -39,18 +21,6 @@ returns c =
     let g = s .args in
     let made = pass-made (g .price) (g .list .now) (g .version .now) (g .store .now) (areas (g .choice .now) (g .list-area .now) (g .block-area .now)) (c .before .before .before .before .before .before .before .before .before .before .before .before .before .pass .ensures) .decided in
     rw (stop-of-answer (g .price) (g .store .now) (s .pre) made (c .before .before .before .before .before .answer .given .1)) (c .before .before .refusal .ensures)
-
-same-length-5 : tie.Need-same-length-5
-same-length-5 c = search needs
-
-same-length-6 : tie.Need-same-length-6
-same-length-6 c = search needs
-
-same-length-7 : tie.Need-same-length-7
-same-length-7 c = search needs
-
-same-length-8 : tie.Need-same-length-8
-same-length-8 c = search needs
 
 returns-2 : tie.Need-returns-2
 returns-2 c =
@@ -64,17 +34,17 @@ text-of-spec =
     tie.close
     (tie.spec
     pass-requires
-    enum-known-answer
+    (λ c. search needs)
     refusal-requires
-    enum-known-answer-2
+    (λ c. search needs)
     listed-requires
-    same-length
-    same-length-2
-    same-length-3
-    same-length-4
+    (λ c. search needs)
+    (λ c. search needs)
+    (λ c. search needs)
+    (λ c. search needs)
     returns
-    same-length-5
-    same-length-6
-    same-length-7
-    same-length-8
+    (λ c. search needs)
+    (λ c. search needs)
+    (λ c. search needs)
+    (λ c. search needs)
     returns-2)

@@ -66,12 +66,6 @@ part-none-end c = search needs
 walk-requires : tie.Need-walk-requires
 walk-requires c κs = record { list-most = counted-of-fits (c .before .before .before .before .before .before .args .list .now) (short (c .before)) .list-most; version-most = omega arith }
 
-enum-known-walked : tie.Need-enum-known-walked
-enum-known-walked c = search needs
-
-enum-told : tie.Need-enum-told
-enum-told c = search needs
-
 refusal-of-requires : tie.Need-refusal-of-requires
 refusal-of-requires c κs = search needs
 
@@ -118,8 +112,8 @@ measure-spec =
     part-none-start
     part-none-end
     walk-requires
-    enum-known-walked
-    enum-told
+    (λ c. search needs)
+    (λ c. search needs)
     refusal-of-requires
     returns-3
     rates-of-requires

@@ -7,20 +7,11 @@ use Rattle.program.proofs.text_of_run.Tie as tie
 price-of-requires : tie.Need-price-of-requires
 price-of-requires c κs = search needs
 
-enum-known-file : tie.Need-enum-known-file
-enum-known-file c = search needs
-
-enum-told : tie.Need-enum-told
-enum-told c = search needs
-
 slice-aggregate-bad-file : tie.Need-slice-aggregate-bad-file
 slice-aggregate-bad-file c = search needs
 
 bad-file-requires : tie.Need-bad-file-requires
 bad-file-requires c κs = search needs
-
-same-length : tie.Need-same-length
-same-length c = search needs
 
 returns : tie.Need-returns
 returns c =
@@ -38,9 +29,6 @@ slice-aggregate-bad-file-2 c = search needs
 bad-file-requires-2 : tie.Need-bad-file-requires-2
 bad-file-requires-2 c κs = search needs
 
-same-length-2 : tie.Need-same-length-2
-same-length-2 c = search needs
-
 returns-2 : tie.Need-returns-2
 returns-2 c = rw (at-file (c .before .before .before .before .before .before .before) .items-named (c .before .before .before .before .before .if1 .taken)) (c .before .before .bad-file2 .ensures)
 
@@ -50,9 +38,6 @@ slice-aggregate-bad-file-3 c = search needs
 bad-file-requires-3 : tie.Need-bad-file-requires-3
 bad-file-requires-3 c κs = search needs
 
-same-length-3 : tie.Need-same-length-3
-same-length-3 c = search needs
-
 returns-3 : tie.Need-returns-3
 returns-3 c = rw (at-file (c .before .before .before .before .before .before .before .before) .version-named (c .before .before .before .before .before .before .if1 .left) (c .before .before .before .before .before .if2 .taken)) (c .before .before .bad-file3 .ensures)
 
@@ -61,9 +46,6 @@ slice-aggregate-bad-file-4 c = search needs
 
 bad-file-requires-4 : tie.Need-bad-file-requires-4
 bad-file-requires-4 c κs = search needs
-
-same-length-4 : tie.Need-same-length-4
-same-length-4 c = search needs
 
 returns-4 : tie.Need-returns-4
 returns-4 c = rw (at-file (c .before .before .before .before .before .before .before .before .before) .store-named (c .before .before .before .before .before .before .before .if1 .left) (c .before .before .before .before .before .before .if2 .left) (c .before .before .before .before .before .if3 .taken)) (c .before .before .bad-file4 .ensures)
@@ -80,9 +62,6 @@ slice-aggregate-text-of-held-3 c = search needs
 text-of-held-requires : tie.Need-text-of-held-requires
 text-of-held-requires c κs = search needs
 
-same-length-5 : tie.Need-same-length-5
-same-length-5 c = search needs
-
 returns-5 : tie.Need-returns-5
 returns-5 c =
     let e = c .before .before .before .before .before .before .before in
@@ -93,27 +72,27 @@ text-of-run-spec =
     tie.close
     (tie.spec
     price-of-requires
-    enum-known-file
-    enum-told
+    (λ c. search needs)
+    (λ c. search needs)
     slice-aggregate-bad-file
     bad-file-requires
-    same-length
+    (λ c. search needs)
     returns
     slice-aggregate-bad-file-2
     bad-file-requires-2
-    same-length-2
+    (λ c. search needs)
     returns-2
     slice-aggregate-bad-file-3
     bad-file-requires-3
-    same-length-3
+    (λ c. search needs)
     returns-3
     slice-aggregate-bad-file-4
     bad-file-requires-4
-    same-length-4
+    (λ c. search needs)
     returns-4
     slice-aggregate-text-of-held
     slice-aggregate-text-of-held-2
     slice-aggregate-text-of-held-3
     text-of-held-requires
-    same-length-5
+    (λ c. search needs)
     returns-5)

@@ -20,12 +20,6 @@ use Rattle.rebuild.proofs.rebuild.Tie as tie
 accept-requires : tie.Need-accept-requires
 accept-requires c κs = search needs
 
-enum-known-w : tie.Need-enum-known-w
-enum-known-w c = search needs
-
-enum-told : tie.Need-enum-told
-enum-told c = search needs
-
 refusal-of-requires : tie.Need-refusal-of-requires
 refusal-of-requires c κs = search needs
 
@@ -70,9 +64,6 @@ fill-requires c κs =
 length-only-requires : tie.Need-length-only-requires
 length-only-requires c κs = search needs
 
-same-length : tie.Need-same-length
-same-length c = search needs
-
 returns-3 : tie.Need-returns-3
 returns-3 c =
     let g = c .before .before .before .before .before .before .before .before .before .before .before .before .before .before .before .args in
@@ -87,8 +78,8 @@ rebuild-spec =
     tie.close
     (tie.spec
     accept-requires
-    enum-known-w
-    enum-told
+    (λ c. search needs)
+    (λ c. search needs)
     refusal-of-requires
     returns
     index-requires
@@ -96,5 +87,5 @@ rebuild-spec =
     returns-2
     fill-requires
     length-only-requires
-    same-length
+    (λ c. search needs)
     returns-3)

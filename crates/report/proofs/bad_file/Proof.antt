@@ -20,9 +20,6 @@ slice-aggregate-put-bytes-2 c = search needs
 put-bytes-requires-3 : tie.Need-put-bytes-requires-3
 put-bytes-requires-3 c κs = search needs
 
-same-length : tie.Need-same-length
-same-length c = search needs
-
 returns : tie.Need-returns
 returns c = written-append (omega arith) (written-append (omega arith) (c .before .before .before .before .before .before .before .before .before .before .before .put-bytes .ensures) (c .before .before .before .before .before .before .before .put-bytes2 .ensures)) (c .before .before .put-bytes3 .ensures)
 
@@ -35,5 +32,5 @@ bad-file-spec =
     put-bytes-requires-2
     slice-aggregate-put-bytes-2
     put-bytes-requires-3
-    same-length
+    (λ c. search needs)
     returns)

@@ -11,11 +11,8 @@ put-bytes-requires c κs = search needs
 put-number-requires : tie.Need-put-number-requires
 put-number-requires c κs = search needs
 
-same-length : tie.Need-same-length
-same-length c = search needs
-
 returns : tie.Need-returns
 returns c = (written-append (omega arith) (c .before .before .before .before .before .before .put-bytes .ensures) (c .before .before .put-number .ensures .0), omega (arith, c .before .before .put-number .ensures .1, c .before .before .before .before .before .before .put-bytes .ensures .place))
 
 pub put-field-spec : {M : Type 1} → statement M
-put-field-spec = tie.close (tie.spec put-bytes-requires put-number-requires same-length returns)
+put-field-spec = tie.close (tie.spec put-bytes-requires put-number-requires (λ c. search needs) returns)

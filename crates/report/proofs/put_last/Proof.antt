@@ -17,9 +17,6 @@ slice-aggregate-put-bytes c = search needs
 put-bytes-requires : tie.Need-put-bytes-requires
 put-bytes-requires c κs = search needs
 
-same-length : tie.Need-same-length
-same-length c = search needs
-
 returns : tie.Need-returns
 returns c = rw (← c .before .before .before .before .before .before .before .before .wide .ensures) (written-append (omega arith) (c .before .before .before .before .before .before .before .put-field .ensures .0) (c .before .before .put-bytes .ensures), omega (arith, c .before .before .before .before .before .before .before .put-field .ensures .1, c .before .before .put-bytes .ensures .place))
 
@@ -31,5 +28,5 @@ put-last-spec =
     put-field-requires
     slice-aggregate-put-bytes
     put-bytes-requires
-    same-length
+    (λ c. search needs)
     returns)

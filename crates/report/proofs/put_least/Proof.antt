@@ -29,9 +29,6 @@ wide-requires-2 c κs = search needs
 put-field-requires-3 : tie.Need-put-field-requires-3
 put-field-requires-3 c κs = search needs
 
-same-length : tie.Need-same-length
-same-length c = search needs
-
 returns : tie.Need-returns
 returns c =
     let f = c .before .before .before .before .before .before .before .before .before .before .before .before .before .before .put-field .ensures in
@@ -52,5 +49,5 @@ put-least-spec =
     slice-aggregate-put-field-3
     wide-requires-2
     put-field-requires-3
-    same-length
+    (λ c. search needs)
     returns)

@@ -20,9 +20,6 @@ slice-aggregate-put-last c = search needs
 put-last-requires : tie.Need-put-last-requires
 put-last-requires c κs = search needs
 
-same-length : tie.Need-same-length
-same-length c = search needs
-
 returns : tie.Need-returns
 returns c = rw (← c .before .before .before .before .before .before .before .before .wide .ensures) (written-append (omega arith) (c .before .before .before .before .before .before .before .put-field .ensures .0) (c .before .before .put-last .ensures .0), omega (arith, c .before .before .before .before .before .before .before .put-field .ensures .1, c .before .before .put-last .ensures .1))
 
@@ -35,5 +32,5 @@ put-match-spec =
     put-field-requires
     slice-aggregate-put-last
     put-last-requires
-    same-length
+    (λ c. search needs)
     returns)

@@ -24,9 +24,6 @@ digits s = s .decimal .ensures .1 .1 ∙ decimal-of-fewest (s .decimal .result) 
 put-bytes-requires : tie.Need-put-bytes-requires
 put-bytes-requires c κs = omega (arith, ap length (digits (c .before .before)), length-decimal (c .before .before .before .before .before .args .n))
 
-same-length : tie.Need-same-length
-same-length c = search needs
-
 returns : tie.Need-returns
 returns c =
     let w = rw (digits (c .before .before .before .before .before)) at (c .before .before .put-bytes .ensures) in
@@ -40,5 +37,5 @@ put-number-spec =
     array-share-prefix-digits
     slice-aggregate-put-bytes
     put-bytes-requires
-    same-length
+    (λ c. search needs)
     returns)

@@ -4,29 +4,17 @@ use borrow.Author.Needs.{needs}
 use Rattle.report.proofs.put_record.Statement.{statement}
 use Rattle.report.proofs.put_record.Tie as tie
 
-enum-known-record : tie.Need-enum-known-record
-enum-known-record c = search needs
-
 slice-aggregate-put-last : tie.Need-slice-aggregate-put-last
 slice-aggregate-put-last c = search needs
 
 put-last-requires : tie.Need-put-last-requires
 put-last-requires c κs = search needs
 
-enum-known-record-2 : tie.Need-enum-known-record-2
-enum-known-record-2 c = search needs
-
 put-match-requires : tie.Need-put-match-requires
 put-match-requires c κs = search needs
 
-same-length : tie.Need-same-length
-same-length c = search needs
-
 returns : tie.Need-returns
 returns c = rw (c .before .before .before .before .before .before .«record» .given .1) (c .before .before .put-last .ensures .0, omega (arith, c .before .before .put-last .ensures .1))
-
-same-length-2 : tie.Need-same-length-2
-same-length-2 c = search needs
 
 returns-2 : tie.Need-returns-2
 returns-2 c = rw (c .before .before .before .before .before .record2 .given .1) (c .before .before .put-match .ensures)
@@ -35,12 +23,12 @@ pub put-record-spec : {M : Type 1} → statement M
 put-record-spec =
     tie.close
     (tie.spec
-    enum-known-record
+    (λ c. search needs)
     slice-aggregate-put-last
     put-last-requires
-    enum-known-record-2
+    (λ c. search needs)
     put-match-requires
-    same-length
+    (λ c. search needs)
     returns
-    same-length-2
+    (λ c. search needs)
     returns-2)

@@ -51,9 +51,6 @@ loop-again c =
       listed = listed-next (g .list .now) (g .area .now) (l .area) n (l .i) (l .at) (l .inv .listed) (c .before .before .before .record-at .result) (c .before .before .put-record .result) _ (omega arith) (c .before .before .before .record-at .ensures) (c .before .before .put-record .ensures .0);
     }
 
-same-length : tie.Need-same-length Inv-loop μ-loop
-same-length c = search needs
-
 returns : tie.Need-returns Inv-loop μ-loop
 returns c =
     let g = c .before .before .before .before .args in
@@ -73,5 +70,5 @@ put-records-spec =
     add-i
     loop-less
     loop-again
-    same-length
+    (λ c. search needs)
     returns)

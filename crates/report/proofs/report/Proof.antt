@@ -14,13 +14,10 @@ put-least-requires c κs = search needs
 put-pass-requires : tie.Need-put-pass-requires
 put-pass-requires c κs = search needs
 
-same-length : tie.Need-same-length
-same-length c = search needs
-
 returns : tie.Need-returns
 returns c = written-append (omega arith) (c .before .before .before .before .before .before .before .before .before .before .put-records .ensures .0) (written-append (omega arith) (c .before .before .before .before .before .before .put-least .ensures .0) (c .before .before .put-pass .ensures))
 
 pub report-spec : {M : Type 1} → statement M
 report-spec =
     tie.close
-    (tie.spec put-records-requires put-least-requires put-pass-requires same-length returns)
+    (tie.spec put-records-requires put-least-requires put-pass-requires (λ c. search needs) returns)

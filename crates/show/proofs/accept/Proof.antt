@@ -59,12 +59,6 @@ part-walk-end c = search needs
 walk-requires : tie.Need-walk-requires
 walk-requires c κs = record { list-most = counted-of-fits (c .before .before .before .before .before .before .before .args .list .now) (short (c .before)) .list-most; version-most = omega arith }
 
-enum-known-w : tie.Need-enum-known-w
-enum-known-w c = search needs
-
-enum-told : tie.Need-enum-told
-enum-told c = search needs
-
 returns-3 : tie.Need-returns-3
 returns-3 c =
     let g = c .before .before .before .before .before .before .before .before .before .before .args in
@@ -106,8 +100,8 @@ accept-spec =
     part-walk-start
     part-walk-end
     walk-requires
-    enum-known-w
-    enum-told
+    (λ c. search needs)
+    (λ c. search needs)
     returns-3
     index-requires
     stopped-requires-3

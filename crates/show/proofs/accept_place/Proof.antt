@@ -15,12 +15,6 @@ use Rattle.show.proofs.accept_place.Tie as tie
 accept-requires : tie.Need-accept-requires
 accept-requires c κs = search needs
 
-enum-known-w : tie.Need-enum-known-w
-enum-known-w c = search needs
-
-enum-told : tie.Need-enum-told
-enum-told c = search needs
-
 returns : tie.Need-returns
 returns c =
     let g = c .before .before .before .before .before .before .args in
@@ -47,4 +41,4 @@ returns-3 c =
 pub accept-place-spec : {M : Type 1} → statement M
 accept-place-spec =
     tie.close
-    (tie.spec accept-requires enum-known-w enum-told returns stopped-requires returns-2 returns-3)
+    (tie.spec accept-requires (λ c. search needs) (λ c. search needs) returns stopped-requires returns-2 returns-3)

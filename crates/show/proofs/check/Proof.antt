@@ -10,12 +10,6 @@ use Rattle.show.proofs.check.Tie as tie
 accept-place-requires : tie.Need-accept-place-requires
 accept-place-requires c κs = search needs
 
-enum-known-w : tie.Need-enum-known-w
-enum-known-w c = search needs
-
-enum-told : tie.Need-enum-told
-enum-told c = search needs
-
 refusal-of-requires : tie.Need-refusal-of-requires
 refusal-of-requires c κs = search needs
 
@@ -39,8 +33,8 @@ check-spec =
     tie.close
     (tie.spec
     accept-place-requires
-    enum-known-w
-    enum-told
+    (λ c. search needs)
+    (λ c. search needs)
     refusal-of-requires
     returns
     length-only-requires

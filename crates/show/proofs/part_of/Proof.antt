@@ -5,9 +5,6 @@ use borrow.Author.Needs.{needs}
 use Rattle.show.proofs.part_of.Statement.{statement}
 use Rattle.show.proofs.part_of.Tie as tie
 
-enum-known-record : tie.Need-enum-known-record
-enum-known-record c = search needs
-
 index-requires : tie.Need-index-requires
 index-requires c κs = search needs
 
@@ -22,9 +19,6 @@ part-result-start c = search needs
 
 part-result-end : tie.Need-part-result-end
 part-result-end c = let lies = rw (c .before .before .«record» .given .1) at (c .before .before .before .before .before .before .pre) in omega (arith, lies, c .index .ensures .0)
-
-enum-known-record-2 : tie.Need-enum-known-record-2
-enum-known-record-2 c = search needs
 
 index-requires-2 : tie.Need-index-requires-2
 index-requires-2 c κs = search needs
@@ -54,13 +48,13 @@ pub part-of-spec : {M : Type 1} → statement M
 part-of-spec =
     tie.close
     (tie.spec
-    enum-known-record
+    (λ c. search needs)
     index-requires
     add-to
     sub-result
     part-result-start
     part-result-end
-    enum-known-record-2
+    (λ c. search needs)
     index-requires-2
     index-requires-3
     add-to-2

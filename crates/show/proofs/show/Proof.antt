@@ -19,12 +19,6 @@ use Rattle.show.proofs.show.Tie as tie
 accept-place-requires : tie.Need-accept-place-requires
 accept-place-requires c κs = search needs
 
-enum-known-w : tie.Need-enum-known-w
-enum-known-w c = search needs
-
-enum-told : tie.Need-enum-told
-enum-told c = search needs
-
 sub-result : tie.Need-sub-result
 sub-result c = search needs
 
@@ -79,8 +73,8 @@ show-spec =
     tie.close
     (tie.spec
     accept-place-requires
-    enum-known-w
-    enum-told
+    (λ c. search needs)
+    (λ c. search needs)
     sub-result
     part-result-start
     part-result-end

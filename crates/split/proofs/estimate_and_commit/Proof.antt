@@ -21,15 +21,6 @@ areas-fit-requires c κs = search needs
 commit-requires : tie.Need-commit-requires
 commit-requires c κs = search needs
 
-same-length : tie.Need-same-length
-same-length c = search needs
-
-same-length-2 : tie.Need-same-length-2
-same-length-2 c = search needs
-
-same-length-3 : tie.Need-same-length-3
-same-length-3 c = search needs
-
 returns : tie.Need-returns
 returns c =
     let g = c .before .before .before .before .before .before .before .before .before .before .before .before .before .before .before .before .args in
@@ -43,15 +34,6 @@ roomy c = sym (c .before .areas-fit .ensures) ∙ not-false _ (c .if1 .left)
 
 estimate-requires : tie.Need-estimate-requires
 estimate-requires c κs = search needs
-
-enum-known-estimated : tie.Need-enum-known-estimated
-enum-known-estimated c = search needs
-
-enum-told : tie.Need-enum-told
-enum-told c = search needs
-
-same-length-4 : tie.Need-same-length-4
-same-length-4 c = search needs
 
 returns-2 : tie.Need-returns-2
 returns-2 c =
@@ -76,15 +58,6 @@ part-commit-end c =
 commit-requires-2 : tie.Need-commit-requires-2
 commit-requires-2 c κs = search needs
 
-same-length-5 : tie.Need-same-length-5
-same-length-5 c = search needs
-
-same-length-6 : tie.Need-same-length-6
-same-length-6 c = search needs
-
-same-length-7 : tie.Need-same-length-7
-same-length-7 c = search needs
-
 returns-3 : tie.Need-returns-3
 returns-3 c =
     let g = c .before .before .before .before .before .before .before .before .before .before .before .before .before .before .before .before .before .before .before .before .before .before .before .before .args in
@@ -100,20 +73,20 @@ estimate-and-commit-spec =
     (tie.spec
     areas-fit-requires
     commit-requires
-    same-length
-    same-length-2
-    same-length-3
+    (λ c. search needs)
+    (λ c. search needs)
+    (λ c. search needs)
     returns
     estimate-requires
-    enum-known-estimated
-    enum-told
-    same-length-4
+    (λ c. search needs)
+    (λ c. search needs)
+    (λ c. search needs)
     returns-2
     sub-commit
     part-commit-start
     part-commit-end
     commit-requires-2
-    same-length-5
-    same-length-6
-    same-length-7
+    (λ c. search needs)
+    (λ c. search needs)
+    (λ c. search needs)
     returns-3)

@@ -90,9 +90,6 @@ loop-again c =
           ∙ set-back (g .choice .now) (l .inv .done ++ drop (g .n) (g .choice .now)) (l .i) (t .result .hint) some (omega (arith, l .inv .in-n, k .pre .in-choice));
     }
 
-same-length : tie.Need-same-length Inv-loop μ-loop
-same-length c = search needs
-
 returns : tie.Need-returns Inv-loop μ-loop
 returns c =
     let g = c .before .before .before .before .args in
@@ -120,5 +117,5 @@ backwards-spec =
     slice-write-choice
     loop-less
     loop-again
-    same-length
+    (λ c. search needs)
     returns)

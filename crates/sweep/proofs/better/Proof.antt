@@ -11,17 +11,11 @@ use borrow.Author.Needs.{needs}
 use Rattle.sweep.proofs.better.Statement.{statement}
 use Rattle.sweep.proofs.better.Tie as tie
 
-enum-told : tie.Need-enum-told
-enum-told c = search needs
-
 added-requires : tie.Need-added-requires
 added-requires c κs = search needs
 
 add-t12 : tie.Need-add-t12
 add-t12 c = search needs
-
-enum-known-record : tie.Need-enum-known-record
-enum-known-record c = search needs
 
 added-requires-2 : tie.Need-added-requires-2
 added-requires-2 c κs = search needs
@@ -78,10 +72,10 @@ pub better-spec : {M : Type 1} → statement M
 better-spec =
     tie.close
     (tie.spec
-    enum-told
+    (λ c. search needs)
     added-requires
     add-t12
-    enum-known-record
+    (λ c. search needs)
     added-requires-2
     add-t15
     added-requires-3

@@ -10,13 +10,10 @@ backwards-requires c κs = search needs
 settle-requires : tie.Need-settle-requires
 settle-requires c κs = search needs
 
-same-length : tie.Need-same-length
-same-length c = search needs
-
 returns : tie.Need-returns
 returns c =
     let g = c .before .before .before .before .before .before .before .before .before .before .args in
     least-in (g .rates) (g .list .now) (g .choice .now) _ _ (c .before .before .before .before .before .before .backwards .result .0) (c .before .before .before .before .before .before .backwards .ensures) (c .before .before .settle .ensures)
 
 pub least-choice-spec : {M : Type 1} → statement M
-least-choice-spec = tie.close (tie.spec backwards-requires settle-requires same-length returns)
+least-choice-spec = tie.close (tie.spec backwards-requires settle-requires (λ c. search needs) returns)

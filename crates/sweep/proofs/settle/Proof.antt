@@ -53,9 +53,6 @@ loop-again c =
       area = l .inv .area ∙ forth-turn (l .choice) (g .n) (l .i) (l .b) (c .next-bit .result) (omega arith) (omega arith) (c .next-bit .ensures);
     }
 
-same-length : tie.Need-same-length Inv-loop μ-loop
-same-length c = search needs
-
 returns : tie.Need-returns Inv-loop μ-loop
 returns c =
     let g = c .before .before .before .args in
@@ -76,5 +73,5 @@ settle-spec =
     add-i
     loop-less
     loop-again
-    same-length
+    (λ c. search needs)
     returns)

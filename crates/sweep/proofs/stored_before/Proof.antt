@@ -8,12 +8,6 @@ use borrow.Author.Needs.{needs}
 use Rattle.sweep.proofs.stored_before.Statement.{statement}
 use Rattle.sweep.proofs.stored_before.Tie as tie
 
-enum-known-before : tie.Need-enum-known-before
-enum-known-before c = search needs
-
-enum-told : tie.Need-enum-told
-enum-told c = search needs
-
 returns : tie.Need-returns
 returns c = search needs
 
@@ -25,4 +19,4 @@ returns-2 c = ap One (c .chosen .ensures) ∙ sym (ap (λ (o : Open). leftBy o s
 
 pub stored-before-spec : {M : Type 1} → statement M
 stored-before-spec =
-    tie.close (tie.spec enum-known-before enum-told returns chosen-requires returns-2)
+    tie.close (tie.spec (λ c. search needs) (λ c. search needs) returns chosen-requires returns-2)

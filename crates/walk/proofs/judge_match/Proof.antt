@@ -11,12 +11,6 @@ use borrow.Author.Needs.{needs}
 use Rattle.walk.proofs.judge_match.Statement.{statement}
 use Rattle.walk.proofs.judge_match.Tie as tie
 
-enum-told : tie.Need-enum-told
-enum-told c = search needs
-
-enum-told-2 : tie.Need-enum-told-2
-enum-told-2 c = search needs
-
 in-store-requires : tie.Need-in-store-requires
 in-store-requires c κs = search needs
 
@@ -27,9 +21,6 @@ returns c =
 
 stop-requires : tie.Need-stop-requires
 stop-requires c κs = search needs
-
-enum-told-3 : tie.Need-enum-told-3
-enum-told-3 c = search needs
 
 in-store-requires-2 : tie.Need-in-store-requires-2
 in-store-requires-2 c κs = search needs
@@ -80,12 +71,12 @@ pub judge-match-spec : {M : Type 1} → statement M
 judge-match-spec =
     tie.close
     (tie.spec
-    enum-told
-    enum-told-2
+    (λ c. search needs)
+    (λ c. search needs)
     in-store-requires
     returns
     stop-requires
-    enum-told-3
+    (λ c. search needs)
     in-store-requires-2
     index-requires
     equal-requires

@@ -3,15 +3,6 @@ use borrow.Author.Needs.{needs}
 use Rattle.walk.proofs.limit_of.Statement.{statement}
 use Rattle.walk.proofs.limit_of.Tie as tie
 
-enum-told : tie.Need-enum-told
-enum-told c = search needs
-
-enum-told-2 : tie.Need-enum-told-2
-enum-told-2 c = search needs
-
-enum-told-3 : tie.Need-enum-told-3
-enum-told-3 c = search needs
-
 cast-result : tie.Need-cast-result
 cast-result c = search needs
 
@@ -26,4 +17,4 @@ returns-3 c = rw (c .enum-told3 .given .1)
 
 pub limit-of-spec : {M : Type 1} → statement M
 limit-of-spec =
-    tie.close (tie.spec enum-told enum-told-2 enum-told-3 cast-result returns returns-2 returns-3)
+    tie.close (tie.spec (λ c. search needs) (λ c. search needs) (λ c. search needs) cast-result returns returns-2 returns-3)

@@ -42,9 +42,6 @@ row-at-requires c κs = search needs
 judge-requires : tie.Need-judge-requires Inv-loop μ-loop
 judge-requires c κs = (c .before .before .before .limit-of .ensures, c .before .before .loop .inv .offset-most)
 
-enum-known-ruling : tie.Need-enum-known-ruling Inv-loop μ-loop
-enum-known-ruling c = search needs
-
 returns : tie.Need-returns Inv-loop μ-loop
 returns c =
     let g = c .before .before .before .before .before .before .before .before .before .before .before .args in
@@ -52,9 +49,6 @@ returns c =
     let n = length (g .list .now) / 12 in
     let stopped = rw (c .before .before .before .before .row-at .ensures) at (sym (c .before .before .before .judge .ensures)) ∙ c .before .ruling .given .1 in
     rw (so-far-stop (checks (g .scope) (g .version .now) (g .store .now)) (g .list .now) n (l .i) (l .seen) (l .inv .so-far) (c .before .ruling .given .0 .0) (omega arith) stopped)
-
-enum-told : tie.Need-enum-told Inv-loop μ-loop
-enum-told c = search needs
 
 step-requires : tie.Need-step-requires Inv-loop μ-loop
 step-requires c κs =
@@ -109,9 +103,9 @@ walk-spec =
     loop-holds
     row-at-requires
     judge-requires
-    enum-known-ruling
+    (λ c. search needs)
     returns
-    enum-told
+    (λ c. search needs)
     step-requires
     add-i
     loop-less

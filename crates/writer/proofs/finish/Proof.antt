@@ -72,12 +72,6 @@ cast-t21 c =
     let w = c .before .before .before .before .before .before .before .before .before .before .before .before .before .before .before .before .before .pre .writable in
     omega (arith, c .before .before .before .before .before .before .before .before .before .before .write-list .ensures .length-is, length-encode (listIn (g .list .now) (g .choice .now)), entries-most (g .list .now) (g .choice .now) (g .version .now) (g .list-area .now) (g .block-area .now) w, w .list-most)
 
-same-length : tie.Need-same-length
-same-length c = search needs
-
-same-length-2 : tie.Need-same-length-2
-same-length-2 c = search needs
-
 returns : tie.Need-returns
 returns c =
     let g = (c .before .before .before .before .before .before .before .before .before .before .before .before .before .before .before .before .before .args) in
@@ -110,6 +104,6 @@ finish-spec =
     cast-stored
     cost-by-requires
     cast-t21
-    same-length
-    same-length-2
+    (λ c. search needs)
+    (λ c. search needs)
     returns)

@@ -53,9 +53,6 @@ add-at c = omega (arith, fits c)
 add-i : tie.Need-add-i Inv-loop μ-loop
 add-i c = search needs
 
-enum-told : tie.Need-enum-told Inv-loop μ-loop
-enum-told c = search needs
-
 sub-part : tie.Need-sub-part Inv-loop μ-loop
 sub-part c = search needs
 
@@ -84,9 +81,6 @@ loop-again c =
     let at = ap (λ (k : ℕ). l .at + k) (sized (i .before .before)) in
     (omega arith, storing-new (l .inv .1) (i .before .before .before .before .record-at .ensures) (omega arith) (i .enum-told .given .1) (part-is i) (i .before .before .before .before .before .before .before .before .before .before .pre .room) (c .before .before .put .ensures) at refl)
 
-enum-told-2 : tie.Need-enum-told-2 Inv-loop μ-loop
-enum-told-2 c = search needs
-
 loop-less-2 : tie.Need-loop-less-2 Inv-loop μ-loop
 loop-less-2 c = search needs
 
@@ -114,7 +108,7 @@ write-block-spec =
     index-requires
     add-at
     add-i
-    enum-told
+    (λ c. search needs)
     sub-part
     part-part-start
     part-part-end
@@ -123,7 +117,7 @@ write-block-spec =
     add-fresh
     loop-less
     loop-again
-    enum-told-2
+    (λ c. search needs)
     loop-less-2
     loop-again-2
     same-length
