@@ -2,7 +2,7 @@
 -- choice stores no match alone.
 -- In order: a choice is read off its own list; items that were fused are the list of a choice of the tidy form; and so of one of the records.
 -- Assumes nothing.
-use Prim.Native.Nat.{ℕ, _+_, _-_, _≤_}
+use Prim.Native.Nat.{ℕ, _+_, _≤_}
 use native.Mathlib.Omega.{arith}
 use mathlib.Core.Path.{_≡_, refl, sym, ap, subst, _∙_}
 use mathlib.Core.Bool.{Bool, true, false, not, cond}

@@ -6,9 +6,9 @@ ghost use mathlib.Core.Path.{_≡_};
 ghost use Prim.Native.Nat.{_+_, _*_, _-_, _≤_, _<_};
 ghost use mathlib.Core.List.{[], _∷_};
 ghost use lib.ListN.{length};
-ghost use Rattle.format.specs.Limits.{listMost};
+ghost use Rattle.format.specs.Limits.{recordsMost, listMost};
 ghost use Rattle.format.specs.Record.{recordsOf};
-ghost use Rattle.price.specs.Price.{priceFits, ratesOf, news, cost, RatesFit, Storing, Tallied, Countable, Counted};
+ghost use Rattle.price.specs.Price.{entryMost, priceFits, ratesOf, news, cost, RatesFit, Storing, Tallied, Countable, Counted};
 use format::Record;
 
 // Bytes of the index.
@@ -115,14 +115,23 @@ fn tally(list: &[u8]) -> u64
     count
 }
 
+// What so many entries of one kind cost.
+fn entries_cost(rate: Cost, n: u64) -> Cost
+    requires { ⌜ (rate .0 ≤ entryMost) × (n ≤ recordsMost) ⌝ }
+    ensures { λ r. ⌜ (r .0 ≡ rate .0 * n) × (r .0 ≤ entryMost * recordsMost) ⌝ }
+{
+    Cost(rate.0 * n)
+}
+
 // The cost of so many entries, of which so many are new, and of so many stored bytes.
 pub fn cost_by(rates: Rates, entries: u64, fresh: u64, stored: u32) -> Cost
     requires { ⌜ Counted rates entries fresh ⌝ }
     ensures { λ r. ⌜ r .0 ≡ rates .fresh .0 * fresh + rates .kept .0 * (entries - fresh) + rates .byte .0 * stored ⌝ }
 {
-    let kept = entries - fresh;
+    let news = entries_cost(rates.fresh, fresh);
+    let matches = entries_cost(rates.kept, entries - fresh);
     let bytes = storing(rates, stored);
-    Cost(rates.fresh.0 * fresh + rates.kept.0 * kept + bytes.0)
+    Cost(news.0 + matches.0 + bytes.0)
 }
 
 // The cost of a list that has so many stored bytes.

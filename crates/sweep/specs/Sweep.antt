@@ -14,10 +14,9 @@ use Rattle.price.specs.Price.{RatesFit}
 use Rattle.area.specs.Area.{over}
 use Rattle.join.specs.declared.Open.{Open}
 use Rattle.join.specs.declared.Open.the-variants.{No, One}
-use Rattle.choice.specs.Choice.{Bit, keep, store, bitByte, bitBytes, freedom, chosenRecord, costOf, least}
-use Rattle.choice.specs.Path.{decide, at, best, hints, after, step, stepMost}
-use Rattle.sweep.specs.declared.Turn.{Turn}
-use Rattle.sweep.specs.declared.Way.{Way}
+use Rattle.choice.specs.Choice.{Bit, bitByte, bitBytes, costOf, least}
+use Rattle.choice.specs.Path.{best, hints, after, step}
+use Rattle.weigh.specs.Weigh.{leftBy}
 
 -- two bits in a byte: what to do after a kept, and after a stored record
 abbrev pub hintByte : Bit × Bit → ℕ
@@ -27,40 +26,9 @@ abbrev pub hintBytes : List (Bit × Bit) → List ℕ
 hintBytes [] = []
 hintBytes (h ∷ hs) = hintByte h ∷ hintBytes hs
 
--- the better way with a record after the state o, where the rest costs at least `kept` after it is kept and `stored` after it is stored: what it comes
--- to, and its bit
-abbrev pub wayOf : Rates → Open → Record → ℕ → ℕ → Way
-wayOf rates o r kept stored =
-    let k = step rates o r keep + kept in
-    let n = step rates o r store + stored in
-    let b = decide (freedom r) k n in
-    record { cost = record { 0 = at b k n }; bit = bitByte b }
-
-pub record Better (rates : Rates) (o : Open) (r : Record) (kept stored : ℕ) (w : Way) : Type 0 where
-  pub is : w ≡ wayOf rates o r kept stored
-  pub cost-most : (m : ℕ) → kept ≤ m → stored ≤ m → w .cost .0 ≤ m + stepMost
-  pub bit-most : w .bit ≤ 1
-
 -- the record before record i of a list, if there is one
 abbrev pub beforeAt : List ℕ → ℕ → Open
 beforeAt list i = cond (eqb i 0) No (One (recordOf (rowAt list (i - 1))))
-
--- the record before, as its bit leaves it
-abbrev pub leftBy : Open → Bit → Open
-leftBy No b = No
-leftBy (One r) b = One (chosenRecord b r)
-
--- one record of the sweep from the rear, after the record before it: what it comes to where that one is kept, and where it is stored
-abbrev pub turned : Rates → Open → Record → ℕ → ℕ → Turn
-turned rates o r kept stored =
-    let k = wayOf rates (leftBy o keep) r kept stored in
-    let n = wayOf rates (leftBy o store) r kept stored in
-    record { kept = k .cost; stored = n .cost; hint = k .bit + 2 * n .bit }
-
-pub record Turned (rates : Rates) (o : Open) (r : Record) (kept stored : ℕ) (t : Turn) : Type 0 where
-  pub is : t ≡ turned rates o r kept stored
-  pub kept-most : (m : ℕ) → kept ≤ m → stored ≤ m → t .kept .0 ≤ m + stepMost
-  pub stored-most : (m : ℕ) → kept ≤ m → stored ≤ m → t .stored .0 ≤ m + stepMost
 
 -- the least cost of the records, after the state o
 abbrev pub bestOf : Rates → List Record → Open → ℕ

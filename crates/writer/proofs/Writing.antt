@@ -3,7 +3,7 @@
 use Prim.Native.Nat.{ℕ, _+_, _-_, _/_, _≤_, _<_}
 use native.Mathlib.Omega.{arith}
 use mathlib.Core.Path.{_≡_, refl, sym, _∙_, ap}
-use mathlib.Core.List.{List, [], _∷_, _++_, append-nil}
+use mathlib.Core.List.{List, [], _∷_, _++_}
 use lib.ListN.{length, take, drop, getD, length-append, length-drop}
 use lib.Seq.{drop-drop, length-take-le}
 use borrow.Author.Tests.{ne-eqb}
@@ -14,7 +14,7 @@ use Rattle.format.specs.Record.{from, rowAt, recordOf, records, recordsOf, enco
 use Rattle.format.specs.Meaning.{sizeOf, whole, stored, blockOf}
 use Rattle.format.proofs.Rows.{recordsFrom-next, recordsFrom-none, recordsFrom-all, from-next, length-from, length-recordsOf}
 use Rattle.format.proofs.Rebuilding.{length-block, stored-most}
-use Rattle.format.proofs.Encoding.{encode-append, length-encode, records-encode}
+use Rattle.format.proofs.Encoding.{length-encode, records-encode}
 use Rattle.price.specs.Price.{news}
 use Rattle.area.specs.Area.{pasted}
 use Rattle.area.proofs.Filling.{Filling, filling-start, filling-put, filling-end, filling-out, filling-room}

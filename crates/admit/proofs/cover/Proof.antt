@@ -1,6 +1,5 @@
 -- `admit::cover` meets its contract: the walk's refusal, the short end, or none. Assumes nothing.
-use mathlib.Core.Path.{_≡_, sym, _∙_, ap}
-use lib.ListN.{length}
+use mathlib.Core.Path.{sym, _∙_, ap}
 use Rattle.format.specs.declared.Fault.the-variants.{Sizes}
 use Rattle.format.specs.Refusal.{refuse}
 use Rattle.format.specs.Record.{recordsOf}

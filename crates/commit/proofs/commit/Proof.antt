@@ -1,7 +1,7 @@
 -- `commit::commit` meets its contract: refused as the checks say, or what is written of the choice. Assumes nothing.
 use Prim.Native.Nat.{_/_}
 use native.Mathlib.Omega.{arith}
-use mathlib.Core.Path.{_≡_, refl, sym, _∙_, ap}
+use mathlib.Core.Path.{_≡_, refl, sym, _∙_}
 use lib.ListN.{length}
 use Rattle.format.specs.declared.Ruling.the-variants.{Fine}
 use Rattle.format.specs.Record.{recordsOf}

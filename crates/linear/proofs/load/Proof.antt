@@ -1,6 +1,6 @@
 -- `linear::load` meets its contract. The invariant: `Laid` says that the tidy form of the records from i on stands from `right` on. The measure is i.
 -- Assumes nothing.
-use Prim.Native.Nat.{ℕ, _-_}
+use Prim.Native.Nat.{ℕ}
 use native.Mathlib.Omega.{arith}
 use mathlib.Core.Path.{_≡_, refl, subst}
 use Rattle.linear.proofs.Loading.{Laid, laid-start, laid-apart, laid-joined, joined-most, loaded-of-laid}

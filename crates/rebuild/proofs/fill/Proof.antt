@@ -37,7 +37,7 @@ room : (c : tie.After-part-of Inv-loop μ-loop) → let l = c .before .before .b
 room c = copied-room (c .before .before .before .before .before .before .before .before .pre) (c .before .before .before .loop .inv .1) (c .before .record-at .ensures) (omega arith) (part-is c)
 
 put-requires : tie.Need-put-requires Inv-loop μ-loop
-put-requires c κs = room (c .before)
+put-requires c κs = omega (arith, room (c .before))
 
 add-out : tie.Need-add-out Inv-loop μ-loop
 add-out c = omega (arith, room (c .before .before .before .before), c .before .before .before .before .before .before .before .loop .inv .1 .filling .same)

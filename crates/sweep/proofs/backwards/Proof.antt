@@ -11,7 +11,8 @@ use Rattle.price.specs.declared.Rates.{Rates}
 use Rattle.join.specs.declared.Open.{Open}
 use Rattle.choice.specs.Choice.{keep}
 use Rattle.choice.specs.Path.{stepMost}
-use Rattle.sweep.specs.Sweep.{hintBytes, hintsOf, bestOf, beforeAt, leftBy, turned}
+use Rattle.weigh.specs.Weigh.{leftBy, turned}
+use Rattle.sweep.specs.Sweep.{hintBytes, hintsOf, bestOf, beforeAt}
 use Rattle.sweep.proofs.Sweeping.{Swept, swept-end, swept-next, set-back}
 use borrow.Author.Needs.{needs}
 use Rattle.sweep.proofs.backwards.Statement.{statement}

@@ -1,8 +1,5 @@
 -- `walk::adjacent` meets its contract. Assumes nothing.
-use mathlib.Core.Path.{sym, ap}
-use mathlib.Core.Bool.{Bool, _&&_}
 use borrow.Author.Tests.{eq-eqb, ne-eqb}
-use borrow.Author.Needs.{needs}
 use Rattle.walk.proofs.adjacent.Statement.{statement}
 use Rattle.walk.proofs.adjacent.Tie as tie
 

@@ -5,7 +5,7 @@ use mathlib.Core.Path.{_≡_, _∙_, ap}
 use mathlib.Core.List.{List}
 use lib.ListN.{length, take}
 use Rattle.format.specs.declared.Record.{Record}
-use Rattle.format.specs.Record.{recordsOf, encode}
+use Rattle.format.specs.Record.{encode}
 use Rattle.format.specs.Meaning.{stored, blockOf}
 use Rattle.format.proofs.Encoding.{length-encode}
 use Rattle.area.specs.Area.{over}

@@ -1,7 +1,6 @@
 -- `writer::run_at` meets its contract. The invariant: one new record stands for those so far. The measure is the number of records left. Assumes nothing.
 use Prim.Native.Nat.{_+_, _-_}
 use native.Mathlib.Omega.{arith}
-use mathlib.Core.Path.{refl}
 use Rattle.format.specs.declared.Record.the-variants.{New}
 use Rattle.writer.specs.Write.{RunOf}
 use Rattle.writer.proofs.Writing.{run-kept, run-stored, run-more}

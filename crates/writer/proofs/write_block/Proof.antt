@@ -63,7 +63,7 @@ part-part-end : tie.Need-part-part-end Inv-loop μ-loop
 part-part-end c = omega (arith, fits (c .before .before))
 
 put-requires : tie.Need-put-requires Inv-loop μ-loop
-put-requires c κs = room (c .before .before)
+put-requires c κs = omega (arith, room (c .before .before))
 
 add-out : tie.Need-add-out Inv-loop μ-loop
 add-out c = omega (arith, room (c .before .before .before .before .before), c .before .before .before .before .before .before .before .before .before .before .before .loop .inv .1 .filling .same, c .before .before .before .before .before .before .before .before .before .before .before .before .before .before .before .good)

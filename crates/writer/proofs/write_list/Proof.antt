@@ -8,7 +8,6 @@ use Rattle.choice.specs.Choice.{chosen, bitsOf}
 use Rattle.emit.proofs.Listing.{Listing, listing-start, listing-room, listing-size, listing-next, listing-last, listing-end}
 use Rattle.writer.specs.Write.{chosenFrom}
 use Rattle.writer.proofs.Writing.{chosenFrom-all, chosenFrom-none}
-use borrow.Author.Needs.{needs}
 use Rattle.writer.proofs.write_list.Statement.{statement}
 use Rattle.writer.proofs.write_list.Tie as tie
 

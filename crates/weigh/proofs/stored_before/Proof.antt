@@ -1,12 +1,12 @@
--- `sweep::stored_before` meets its contract. Assumes nothing.
+-- `weigh::stored_before` meets its contract. Assumes nothing.
 use mathlib.Core.Path.{sym, _∙_, ap}
 use Rattle.join.specs.declared.Open.{Open}
 use Rattle.join.specs.declared.Open.the-variants.{One}
 use Rattle.choice.specs.Choice.{store}
-use Rattle.sweep.specs.Sweep.{leftBy}
+use Rattle.weigh.specs.Weigh.{leftBy}
 use borrow.Author.Needs.{needs}
-use Rattle.sweep.proofs.stored_before.Statement.{statement}
-use Rattle.sweep.proofs.stored_before.Tie as tie
+use Rattle.weigh.proofs.stored_before.Statement.{statement}
+use Rattle.weigh.proofs.stored_before.Tie as tie
 
 returns : tie.Need-returns
 returns c = search needs

@@ -1,8 +1,8 @@
--- `sweep::weigh` meets its contract: both ways with the record. Assumes nothing.
-use Rattle.sweep.proofs.Sweeping.{turned-of}
+-- `weigh::weigh` meets its contract: both ways with the record. Assumes nothing.
+use Rattle.weigh.proofs.Weighing.{turned-of}
 use borrow.Author.Needs.{needs}
-use Rattle.sweep.proofs.weigh.Statement.{statement}
-use Rattle.sweep.proofs.weigh.Tie as tie
+use Rattle.weigh.proofs.weigh.Statement.{statement}
+use Rattle.weigh.proofs.weigh.Tie as tie
 
 better-requires : tie.Need-better-requires
 better-requires c κs = search needs

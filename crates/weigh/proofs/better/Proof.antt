@@ -1,4 +1,4 @@
--- `sweep::better` meets its contract: the record is new; or it is a match, held or not, and storing it comes to less or to no less. Assumes nothing.
+-- `weigh::better` meets its contract: the record is new; or it is a match, held or not, and storing it comes to less or to no less. Assumes nothing.
 use Prim.Native.Nat.{ℕ, _+_}
 use native.Mathlib.Omega.{arith}
 use mathlib.Core.Path.{sym, _∙_, ap}
@@ -6,10 +6,10 @@ use Rattle.format.specs.declared.Record.the-variants.{New}
 use Rattle.format.specs.Meaning.{sizeOf}
 use Rattle.choice.specs.Choice.{freedom}
 use Rattle.choice.specs.Path.{added}
-use Rattle.sweep.proofs.Sweeping.{better-only, better-held, better-keep, better-store}
+use Rattle.weigh.proofs.Weighing.{better-only, better-held, better-keep, better-store}
 use borrow.Author.Needs.{needs}
-use Rattle.sweep.proofs.better.Statement.{statement}
-use Rattle.sweep.proofs.better.Tie as tie
+use Rattle.weigh.proofs.better.Statement.{statement}
+use Rattle.weigh.proofs.better.Tie as tie
 
 added-requires : tie.Need-added-requires
 added-requires c κs = search needs
