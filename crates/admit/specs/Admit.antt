@@ -38,7 +38,7 @@ roomsRuling list v c a b = need (areasFit list v c a b) fault.AreaTooShort 0
 abbrev pub coverRuling : List ℕ → List ℕ → List ℕ → Ruling
 coverRuling list v st = walkRuling (checks scope.Version v st) list then need (eqb (whole (recordsOf list)) (length v)) fault.Sizes (length (recordsOf list))
 
--- "Order": 1, 2, 3; then 9; then record by record 4, 5, 6, 7, 8, and the short end. In rooms of lengths c, a and b
+-- the order of clause 6.5: 1, 2, 3; then 9; then record by record 4, 5, 6, 7, 8, and the short end. In rooms of lengths c, a and b
 abbrev pub admitRuling : Price → List ℕ → List ℕ → List ℕ → ℕ → ℕ → ℕ → Ruling
 admitRuling price list v st c a b = firstRuling price list v st then roomsRuling list v c a b then coverRuling list v st
 

@@ -1,4 +1,4 @@
--- A "lone match" that a choice stores (clause 8.5.4).
+-- A lone match that a choice stores: one with no stored record beside it (clause 8.5.4).
 -- Assumes nothing.
 use mathlib.Core.Bool.{Bool, true, false, _&&_, _||_}
 use mathlib.Core.List.{List, [], _∷_}

@@ -42,7 +42,7 @@ pub data Free : Type 0 where
   only : Bit → Free
   either : Free
 
--- a new record always has 1; "a held match is always kept .. and only choices that keep all held matches are rivals"
+-- a new record always has 1, a held match always 0; bits that would store one are no choice (clauses 3.2 and 3.3)
 abbrev pub freedom : Record → Free
 freedom (New s) = only store
 freedom (Match s a) = cond (a .held) (only keep) either
@@ -91,8 +91,8 @@ chosen [] c = []
 chosen (r ∷ rs) [] = []
 chosen (r ∷ rs) (b ∷ c) = chosenRecord b r ∷ chosen rs c
 
--- the list of a choice: each longest run of 1s becomes one new record, each 0 keeps its record as it was; "two neighbouring kept matches, the second's
--- address being the first's address plus size, are written as one record"
+-- the list of a choice: each longest run of 1s becomes one new record, each 0 keeps its record as it was, and matches that join are one record
+-- (clauses 3.4 to 3.7)
 abbrev pub listOf : List Record → List Bit → List Record
 listOf rs c = tidy (chosen rs c)
 

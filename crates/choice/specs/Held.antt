@@ -1,4 +1,4 @@
--- Clause 3.3: "a held match is always kept".
+-- That a choice keeps every held match (clause 3.3).
 -- Assumes nothing.
 use mathlib.Core.Path.{_≡_}
 use mathlib.Core.Bool.{true}

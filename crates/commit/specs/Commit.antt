@@ -1,5 +1,5 @@
--- The call commit (section 4.9, clause 5.12): it "takes list, version, store, price and a choice, and writes that choice's list and stored block with its
--- entries, stored bytes and cost, least or not".
+-- The call commit (section 4.9, clause 5.12): the list and the stored block of a choice that is handed in, least or not, with their entries, stored
+-- bytes and cost.
 -- Assumes nothing.
 use Prim.Native.Nat.{ℕ, suc, _/_}
 use mathlib.Core.Path.{_≡_}
@@ -23,25 +23,25 @@ use Rattle.choice.specs.Choice.{bitsOf, listOf}
 use Rattle.admit.specs.Admit.{admitRuling}
 use Rattle.writer.specs.Decide.{decidedAnswer}
 
--- whether a record may have the byte b; not "a byte over 1, a 0 for a new record or a 1 for a held one"
+-- whether a record may have the byte b: not one over 1, no 0 for a new record and no 1 for a held match (clause 5.12)
 abbrev pub mayHave : Record → ℕ → Bool
 mayHave (New s) b = eqb b 1
 mayHave (Match s a) b = cond (a .held) (eqb b 0) (leb b 1)
 
--- "place is the first such record": the records from record i on, each with its byte
+-- the records from record i on, each with its byte; the place is the first that may not have it
 abbrev pub bytesRuling : ℕ → List Record → List ℕ → Ruling
 bytesRuling i [] bs = Fine
 bytesRuling i (r ∷ rs) [] = Fine
 bytesRuling i (r ∷ rs) (b ∷ bs) = need (mayHave r b) fault.Choice i then bytesRuling (suc i) rs bs
 
--- check 12: "one byte per record", the length "is looked at first"; then the bytes
+-- check 12: one byte for each record, so the length first; then the bytes
 abbrev pub choiceRuling : List ℕ → List ℕ → Ruling
 choiceRuling list choice =
     need (eqb (length choice) (length (recordsOf list))) fault.Choice 0
     then bytesRuling 0 (recordsOf list) choice
 
--- "partition's checks, with 9 in its place": by the areas for list and stored block, of lengths a and b, as the choice is given just the length that it
--- needs; then 12, "right after the short end"
+-- the order of clause 6.6: partition's checks, with 9 by the areas for list and stored block, of lengths a and b, as the choice is given just the length
+-- that it needs; then 12, right after the short end
 abbrev pub commitRuling : Price → List ℕ → List ℕ → List ℕ → List ℕ → ℕ → ℕ → Ruling
 commitRuling price list v st choice a b =
     admitRuling price list v st (length list / 12) a b

@@ -1,4 +1,4 @@
--- The call compare (section 4.6): "The new call takes two lists, two stored blocks and one store".
+-- The call compare (section 4.6): two lists, two stored blocks and one store.
 -- Assumes nothing.
 use Prim.Native.Nat.{ℕ}
 use mathlib.Core.Bool.{Bool, true, false, cond}
@@ -13,7 +13,7 @@ use Rattle.format.specs.Meaning.{rebuilt}
 use Rattle.words.specs.Same.{sameBytes}
 use Rattle.show.specs.Check.{inputsRuling}
 
--- "A refusal is the one that check gives without a place k, first list first": of each list with its block 2, 3; record by record 4, 5, 6, 7; then 10
+-- the order of clause 6.4: as check without a place k, the first list wholly and then the second: 2, 3; record by record 4, 5, 6, 7; then 10
 abbrev pub compareRuling : List ℕ → List ℕ → List ℕ → List ℕ → List ℕ → Ruling
 compareRuling first second block₁ block₂ st = inputsRuling first block₁ st then inputsRuling second block₂ st
 
@@ -21,11 +21,11 @@ compareRuling first second block₁ block₂ st = inputsRuling first block₁ st
 abbrev pub versionOf : List ℕ → List ℕ → List ℕ → List ℕ
 versionOf list block st = rebuilt (recordsOf list) block st
 
--- "both rebuild the same bytes"
+-- both rebuild the same bytes (clause 4.6.2)
 abbrev pub sameVersion : List ℕ → List ℕ → List ℕ → List ℕ → List ℕ → Bool
 sameVersion first second block₁ block₂ st = sameBytes (versionOf first block₁ st) (versionOf second block₂ st)
 
--- "a yes or no (1 or 0) .. stands in entries"
+-- yes or no is 1 or 0 in entries (clause 4.6.1)
 abbrev pub yesOrNo : Bool → Figures
 yesOrNo same = entriesOnly (cond same 1 0)
 
@@ -35,6 +35,6 @@ saysYes = Accepted (yesOrNo true)
 abbrev pub saysNo : Answer
 saysNo = Accepted (yesOrNo false)
 
--- "It says yes exactly when both rebuild the same bytes"
+-- it says yes exactly where both rebuild the same bytes
 abbrev pub compared : List ℕ → List ℕ → List ℕ → List ℕ → List ℕ → Answer
 compared first second block₁ block₂ st = answer (compareRuling first second block₁ block₂ st) (yesOrNo (sameVersion first second block₁ block₂ st))

@@ -1,4 +1,4 @@
--- The file price: "the price file holds EN, EM, F, 2 bytes each, and one of any length but 6 is bad"; lowest byte first.
+-- The file price (clause 9.2): EN, EM and F, 2 bytes each, lowest byte first; one of any length but 6 is bad.
 -- Assumes nothing.
 use Prim.Native.Nat.{ℕ, _+_, _*_}
 use mathlib.Core.Bool.{cond}

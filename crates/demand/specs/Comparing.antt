@@ -1,5 +1,5 @@
--- The laws of compare (section 8.3), by the contracts of the other calls: its refusals are check's; "It says yes exactly when both rebuild the same bytes",
--- of rebuild's own writing; a list and itself; the order of the two; and what partition and pass wrote, beside any other list of the same version.
+-- The laws of compare (section 8.3), by the contracts of the other calls: its refusals are check's; it says yes exactly where the bytes that rebuild wrote are
+-- the same; a list and itself; the order of the two; and what partition and pass wrote, beside any other list of the same version.
 -- Assumes nothing.
 use Prim.Native.Nat.{ℕ}
 use mathlib.Core.Path.{_≡_}
@@ -35,13 +35,12 @@ pub record Exactly (a : Answer) (P : Type 0) : Type 0 where
   pub no-elsewhere : (P → ⊥) → a ≡ saysNo
 
 pub record ComparingLaws : Type 0 where
-  -- "A refusal is the one that check gives without a place k, first list first": but for check's 11, whatever k it was asked for; of the second list where
-  -- rebuild accepts the first
+  -- clause 8.3.1: the refusal of check, but for its 11, whatever k it was asked for; of the first list, and of the second where rebuild accepts the first
   pub first-refused : (first second block₁ block₂ st : List ℕ) (k : ℕ) (r : Refusal) → checked first block₁ st k ≡ Refused r → (r .fault ≡ NoSuchRecord → ⊥)
       → compared first second block₁ block₂ st ≡ Refused r
   pub second-refused : (first second block₁ block₂ st : List ℕ) (x : Rebuilding) (k : ℕ) (r : Refusal) → Rebuilds first block₁ st x → checked second block₂ st k ≡ Refused r
       → (r .fault ≡ NoSuchRecord → ⊥) → compared first second block₁ block₂ st ≡ Refused r
-  -- "It says yes exactly when both rebuild the same bytes": where rebuild accepts both, by what it wrote
+  -- clause 8.3.2: where rebuild accepts both, yes exactly where what it wrote is the same
   pub as-rebuilt : (first second block₁ block₂ st : List ℕ) (x y : Rebuilding) → Rebuilds first block₁ st x → Rebuilds second block₂ st y
       → Exactly (compared first second block₁ block₂ st) (writtenVersion x ≡ writtenVersion y)
   -- a list and itself: yes, or the list's refusal

@@ -62,7 +62,7 @@ pub record Made (price : Price) (list v st : List ℕ) (x : Calls) : Type 0 wher
   pub again : Partitioned price (writtenList (x .first)) v st (x .again .before) (x .again .answer) (x .again .after)
   pub passed : PassMade price list v st (x .passed .before) (x .passed .answer) (x .passed .after)
 
--- "in areas long enough for them": each call's areas for what that call is given
+-- areas long enough: each call's for what that call is given (clause 5.9)
 pub record Room (list v : List ℕ) (x : Calls) : Type 0 where
   pub first : LongEnough list v (x .first .before)
   pub rebuilt : length v ≤ length (x .rebuilt .before)
@@ -77,16 +77,16 @@ pub record Demand (price : Price) (list v : List ℕ) (x : Calls) : Type 0 where
   pub first-accepted : Accepts (x .first .answer)
   -- clause 8.1.2: the list it writes is the one that its choice makes
   pub first-written : x .first .after ≡ laid choice (listOf (recordsOf list) choice) v (x .first .before)
-  -- "the entries, stored bytes and cost it gives are that list's"
+  -- and the entries, stored bytes and cost it answers are that list's
   pub first-figures : figuresIn (x .first .answer) ≡ figures (ratesOf price) (listOf (recordsOf list) choice) 0
-  -- "Every other choice .. makes a list that costs at least as much. Where one costs exactly as much, partition's choice is the one that keeps at
-  -- the first record where the two differ"
+  -- clause 8.1.3: every other choice makes a list that costs at least as much; where one costs as much, partition's has 0 at the first record where the
+  -- two differ
   pub is-least : IsLeast (ratesOf price) (recordsOf list) choice
-  -- "Rebuild makes the version again from the written list, its stored block and the store"
+  -- clause 8.1.4: rebuild makes the version again from the written list, its stored block and the store
   pub rebuilt-accepted : Accepts (x .rebuilt .answer)
   pub rebuilt-figures : figuresIn (x .rebuilt .answer) ≡ lengthOnly (length v)
   pub rebuilt-version : x .rebuilt .after ≡ over v (x .rebuilt .before)
-  -- "The written list, handed to partition again .., comes back as the same list with the same stored block and cost"
+  -- clauses 8.1.5 and 8.1.6: the written list, handed to partition again, comes back with the same stored block and figures, and with 0 for each match
   pub again-accepted : Accepts (x .again .answer)
   pub again-figures : figuresIn (x .again .answer) ≡ figuresIn (x .first .answer)
   pub again-written : x .again .after ≡ laid (keepAll (listOf (recordsOf list) choice)) (listOf (recordsOf list) choice) v (x .again .before)
@@ -94,12 +94,12 @@ pub record Demand (price : Price) (list v : List ℕ) (x : Calls) : Type 0 where
   pub passed-accepted : Accepts (x .passed .answer)
   pub passed-figures : figuresIn (x .passed .answer) ≡ figures (ratesOf price) (listOf (recordsOf list) (passChoiceOf price list)) (passLooksOf price list)
   pub passed-written : x .passed .after ≡ laid (passChoiceOf price list) (listOf (recordsOf list) (passChoiceOf price list)) v (x .passed .before)
-  -- "costs no less than partition's list and no more than the list first handed in", as measure prices that one, record by record; nor more than it does
-  -- with its runs joined, which is no more (clause 8.1.9)
+  -- clauses 8.1.8 and 8.1.9: it costs no less than partition's list, no more than the list handed in, as measure prices that, and no more than the tidy
+  -- form of that list
   pub no-less : figuresIn (x .first .answer) .cost ≤ figuresIn (x .passed .answer) .cost
   pub no-more : figuresIn (x .passed .answer) .cost ≤ cost (ratesOf price) (recordsOf list)
   pub no-more-joined : figuresIn (x .passed .answer) .cost ≤ cost (ratesOf price) (tidy (recordsOf list))
-  -- "It counts at most 2n - 1 looks for n records, none for n = 0"; n "counts the records after joining" (clause 8.1.10)
+  -- clause 8.1.10: it counts at most 2n - 1 looks for n records after joining, and none for n = 0
   pub few-looks : figuresIn (x .passed .answer) .looks ≤ 2 * length (tidy (recordsOf list)) - 1
 
 -- it holds of four calls where nothing is found in price, list, version and store, and the areas are long enough for them

@@ -1,5 +1,5 @@
--- Clause 8.5.3: "With EN = EM the answers are the former ones". These are said here a second time, without rates, with F in 256ths
--- and with runs joined: for one E, so that every entry, new or match, costs P = F × E.
+-- Clause 8.5.3: with EN = EM = E the answers are those for one entry size. These are said here a second time, without rates, with F in 256ths
+-- and with runs joined: every entry, new or match, costs P = F × E.
 --
 -- In order: the former range, cost, least choice and pass; what measure, partition and pass answer and write at EN = EM, by their contracts.
 -- Assumes nothing.
@@ -34,7 +34,7 @@ use Rattle.demand.specs.Gives.{measuresAt, Gives}
 abbrev pub formerFits : ℕ → ℕ → Bool
 formerFits e f = leb 1 e && leb e 255 && leb 1 f && leb f 65535
 
--- "F × E × entries + 256 × stored bytes"
+-- F × E × entries + 256 × stored bytes
 abbrev pub formerCost : ℕ → ℕ → List Record → ℕ
 formerCost e f l = f * e * length l + 256 * stored l
 

@@ -1,4 +1,4 @@
--- Clause 8.5.4: "Storing a lone match between two kept ones may now be worth it; only partition does it".
+-- Clause 8.5.4: to store a match with no stored record beside it may be worth it; partition then does it, pass never does.
 -- Assumes nothing.
 use Prim.Native.Nat.{ℕ}
 use mathlib.Core.Path.{_≡_}

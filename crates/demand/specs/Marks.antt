@@ -1,5 +1,5 @@
 -- Section 8.4, matches that must be held: what partition and pass make of held matches, by their contracts; and that measure, rebuild, check,
--- show and compare "give the mark no meaning".
+-- show and compare give the mark no meaning.
 -- Assumes nothing.
 use Prim.Native.Nat.{ℕ}
 use mathlib.Core.Path.{_≡_}
@@ -30,7 +30,7 @@ use Rattle.demand.specs.Demand.{Call, writtenList}
 
 -- ---- partition and pass
 
--- the choice that the call x wrote: "a held match is always kept"; and a byte that must go on being drawn from the store is drawn from the same address
+-- the choice that the call x wrote keeps each held match; and a byte that must go on being drawn from the store is drawn from the same address
 -- by a held match of the list that x wrote, and no other byte is
 pub record HeldStay (list v : List ℕ) (x : Call) : Type 0 where
   pub choice : List Bit
@@ -38,7 +38,7 @@ pub record HeldStay (list v : List ℕ) (x : Call) : Type 0 where
   pub kept : KeepsHeld (recordsOf list) choice
   pub bonds-alike : bonds (recordsOf (writtenList x)) ≡ bonds (recordsOf list)
 
--- whatever meets partition's contract, or pass's, and is accepted; and in a look of the pass, where a held match is of neither kind, "no merge touches it"
+-- whatever meets partition's contract, or pass's, and is accepted; and in a look of the pass, where a held match is of neither kind, no merge touches it
 pub record HeldMatches : Type 0 where
   pub in-partition : (p : Price) (list v st : List ℕ) (x : Call) → Partitioned p list v st (x .before) (x .answer) (x .after) → Accepts (x .answer) → HeldStay list v x
   pub in-pass : (p : Price) (list v st : List ℕ) (x : Call) → PassMade p list v st (x .before) (x .answer) (x .after) → Accepts (x .answer) → HeldStay list v x

@@ -1,5 +1,5 @@
--- Clause 8.6.1: "The sheets hold, as none of their matches goes on in the store". So do all answers for such lists: the former rule is said here a
--- second time, and what partition and pass then gave.
+-- Clause 8.6.1: for a list of which no two neighbours join, partition and pass give what they would if no matches ever joined. That rule is said here by
+-- itself, and what partition and pass give by it.
 --
 -- In order: the former rule, and by it the list of a choice, the least choice and the pass, each called plain; what partition and pass answer and
 -- write for a list of which no two neighbours join, by their contracts. (No two new records stand side by side in a list that is accepted, so only
@@ -31,7 +31,7 @@ use Rattle.demand.specs.Demand.{Call}
 
 -- ---- by the former rule
 
--- new records joined; "matches that follow each other in the store still take one entry each"
+-- new records joined; matches that follow each other in the store take one entry each
 abbrev pub plainJoin : Record → List Record → List Record
 plainJoin (New s) [] = New s ∷ []
 plainJoin (New s) (New t ∷ l) = New (s + t) ∷ l

@@ -35,7 +35,7 @@ use Rattle.demand.specs.Marks.{HeldStay}
 abbrev pub room : List ℕ → List ℕ → Areas → Bool
 room list v x = areasFit list v (length list / 12) (length (x .list)) (length (x .block))
 
--- "An estimate followed by a commitment of its choice on the same inputs"; where the estimate is refused no commitment is made, and its answer stands
+-- an estimate and then a commitment of its choice on the same inputs; where the estimate is refused no commitment is made, and its answer stands
 pub record InTurn (price : Price) (list v st : List ℕ) (before : Areas) (r : TwoAnswers) (after : Areas) : Type 0 where
   pub first : Estimated price list v st (before .choice) (r .estimated) (after .choice)
   pub second : Accepts (r .estimated)
@@ -54,16 +54,16 @@ pub record GivesJoined (q : Ruling) (price : Price) (list v : List ℕ) (x : Cal
   pub block-after : x .after .block ≡ unlessRefused q (over (blockOf (tidy (recordsOf list)) v) (x .before .block)) (x .before .block)
 
 pub record SplitLaws : Type 0 where
-  -- "The estimate gives them as partition would", and its choice, where partition has room for list and stored block; refused or not
+  -- clause 8.2.1: estimate answers and chooses as partition does, where partition has room for list and stored block; refused or not
   pub estimated-alike : (p : Price) (list v st : List ℕ) (x : Call) (r : Answer) (after : List ℕ) → room list v (x .before) ≡ true
       → Partitioned p list v st (x .before) (x .answer) (x .after) → Estimated p list v st (x .before .choice) r after → (r ≡ x .answer) × (after ≡ x .after .choice)
-  -- "An estimate followed by a commitment of its choice on the same inputs gives what partition gives": answer, choice, list and stored block
+  -- clause 8.2.2: an estimate and a commitment of its choice on the same inputs give what partition gives: answer, choice, list and stored block
   pub as-partition : (p : Price) (list v st : List ℕ) (before : Areas) (r : TwoAnswers) (after : Areas) → room list v before ≡ true
       → InTurn p list v st before r after → Partitioned p list v st before (r .committed) after
   -- where that room is not there, a commitment of whatever choice gives what partition gives: a refusal
   pub without-room : (p : Price) (list v st choice : List ℕ) (before : Areas) (r : Answer) (area block : List ℕ) → room list v before ≡ false
       → Committed p list v st choice (before .list) (before .block) r area block → Partitioned p list v st before r (areas (before .choice) area block)
-  -- 12 finds no fault in the bytes of a choice, "least or not", and a fault in all others
+  -- clause 8.2.4: 12 is answered exactly for byte strings that are not a choice, least or not
   pub any-choice : (list : List ℕ) (c : List Bit) → IsChoice (recordsOf list) c → choiceRuling list (bitBytes c) ≡ Fine
   pub choices-alone : (list choice : List ℕ) → choiceRuling list choice ≡ Fine → (c : List Bit) × IsChoice (recordsOf list) c × (choice ≡ bitBytes c)
   -- whatever choice it was: rebuild makes the version again from the list that was written, its stored block and the store

@@ -31,7 +31,7 @@ worked p l c n m k = record { price = p; list = l; choice = c; cost = n; pass-co
 abbrev pub price : ℕ → ℕ → ℕ → Price
 price en em f = record { en = en; em = em; f = f }
 
--- an example of clause 10.1, with its costs in disk bytes: "The sheets hold with F = 256 and every cost times 256"
+-- an example of clause 10.1, with its costs in disk bytes; the calls give 256 times as much
 abbrev pub inBytes : List Record → List Bit → ℕ → ℕ → ℕ → Worked
 inBytes l c n m k = worked (price 10 10 256) l c (256 * n) (256 * m) k
 

@@ -1,4 +1,4 @@
--- The call estimate (section 4.8): it gives cost, entries and stored bytes "as partition would, writes only the choice area and needs no other".
+-- The call estimate (section 4.8): cost, entries and stored bytes as partition would give them; it writes the choice area alone and needs no other.
 -- Assumes nothing.
 use Prim.Native.Nat.{ℕ}
 use mathlib.Core.Path.{_≡_}
@@ -14,7 +14,7 @@ use Rattle.choice.specs.Choice.{bitBytes, leastOf}
 use Rattle.admit.specs.Admit.{admitRuling}
 use Rattle.writer.specs.Decide.{decidedAnswer}
 
--- "partition's checks, with 9 in its place": by the choice area alone, as list and stored block are given just the lengths that they need
+-- the order of clause 6.5, with 9 by the choice area alone, as list and stored block are given just the lengths that they need
 abbrev pub estimateRuling : Price → List ℕ → List ℕ → List ℕ → List ℕ → Ruling
 estimateRuling price list v st choice = admitRuling price list v st (length choice) (length list) (length v)
 

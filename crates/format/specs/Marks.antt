@@ -27,7 +27,7 @@ unmarkedByte l i = cond (eqb (i % 12) 1 && eqb (getD l (i - 1) 0) 1 && eqb (getD
 abbrev pub unmarked : List ℕ → List ℕ
 unmarked l = from (unmarkedByte l) 0 (length l)
 
--- what is said of a byte of the version: it may be stored, or drawn from anywhere; or it "must go on being drawn from the store", from this address
+-- what is said of a byte of the version: it may be stored, or drawn from anywhere; or it must go on being drawn from the store, from this address
 pub data Bond : Type 0 where
   free : Bond
   boundTo : ℕ → Bond

@@ -52,7 +52,7 @@ rowsOf l = from (rowAt l) 0 (length l / 12)
 abbrev pub isNew : Row → Bool
 isNew r = eqb (r .kind) 0
 
--- where a match is drawn from; "Byte 1 of a match may now be 1, 'held'"
+-- where a match is drawn from; it is held where byte 1 is 1 (clause 1.12)
 abbrev pub sourceOf : Row → Source
 sourceOf r = record { address = r .address; held = eqb (r .byte1) 1 }
 
@@ -87,7 +87,7 @@ word x = x % 256 ∷ x / 256 % 256 ∷ x / 65536 % 256 ∷ x / 16777216 ∷ []
 abbrev pub markByte : Bool → ℕ
 markByte held = cond held 1 0
 
--- the 12 bytes of a record; "the mark is written out"
+-- the 12 bytes of a record, its mark included
 abbrev pub bytesOf : Record → List ℕ
 bytesOf (New s) = 0 ∷ 0 ∷ 0 ∷ 0 ∷ word s ++ word 0
 bytesOf (Match s a) = 1 ∷ markByte (a .held) ∷ 0 ∷ 0 ∷ word s ++ word (a .address)

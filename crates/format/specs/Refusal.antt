@@ -11,7 +11,7 @@ use Rattle.format.specs.declared.Figures.{Figures}
 use Rattle.format.specs.declared.Answer.{Answer}
 use Rattle.format.specs.declared.Answer.the-variants.{Accepted, Refused}
 
--- "Numbers by their cause"
+-- the numbers (section 5)
 abbrev pub number : Fault → ℕ
 number Price = 1
 number TooLong = 2
@@ -35,7 +35,7 @@ abbrev pub need : Bool → Fault → ℕ → Ruling
 need true f p = Fine
 need false f p = Stop (refuse f p)
 
--- "Order": the first refusal stands
+-- checks one after the other: the first refusal stands (clause 4.1.2)
 infixr 20 _then_
 abbrev pub _then_ : Ruling → Ruling → Ruling
 _then_ Fine r = r

@@ -1,5 +1,4 @@
--- Which neighbouring records join, and the tidy form of a list: clauses 3.4 to 3.7
--- and 3.12.
+-- Which neighbouring records join, and the tidy form of a list: clauses 3.4 to 3.7 and 3.12.
 -- Assumes nothing.
 use Prim.Native.Nat.{ℕ, _+_}
 use mathlib.Core.Path.{_≡_}
@@ -11,8 +10,7 @@ use Rattle.format.specs.declared.Record.{Record}
 use Rattle.format.specs.declared.Record.the-variants.{New, Match}
 use Rattle.format.specs.Meaning.{sizeOf}
 
--- whether a match of s bytes drawn from a goes on in one drawn from b: "the second's address being the first's address plus size", and "only if both
--- marks are equal"
+-- whether a match of s bytes drawn from a goes on in one drawn from b: its address is the first's address plus size, and both marks are equal (clause 3.6)
 abbrev pub goesOn : ℕ → Source → Source → Bool
 goesOn s a b = Bool·beq (a .held) (b .held) && eqb (a .address + s) (b .address)
 

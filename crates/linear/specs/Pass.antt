@@ -1,5 +1,5 @@
--- The pass over a list of records (section 4.10): its looks are made on the tidy form of the list handed in ("the pass joins such
--- runs first and then looks"), and a caller gets the outcomes of the looks, their number, the list at the end, and the choice that this list stands
+-- The pass over a list of records (section 4.10): its looks are made on the tidy form of the list handed in (clause
+-- 4.10.3), and a caller gets the outcomes of the looks, their number, the list at the end, and the choice that this list stands
 -- for. The looks themselves are those of the crate machine.
 -- Assumes nothing.
 use Prim.Native.Nat.{ℕ, _-_, _*_, _≤_}
@@ -25,7 +25,7 @@ use Rattle.machine.specs.Looks.{pass, endItems}
 
 -- ---- records as items
 
--- a match of s bytes; a held one is of neither kind, so that "no merge touches it"
+-- a match of s bytes; a held one is of neither kind, so that no merge touches it (clause 4.10.13)
 abbrev pub drawn : Bool → ℕ → Item
 drawn held s = cond held (neither s) (match s)
 

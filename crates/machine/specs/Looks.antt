@@ -9,7 +9,7 @@ use Rattle.rules.specs.declared.Merge.the-variants.{Both, Before, After, Pair}
 use Rattle.rules.specs.declared.Outcome.{Outcome}
 use Rattle.rules.specs.declared.Outcome.the-variants.{Advance, Merged}
 
--- ---- the list: "a record of kinds and sizes .. with a front and a rear mark, both of neither kind"
+-- ---- the list: items of a kind and a size, with a front and a rear mark, both of neither kind (clause 4.10.2)
 
 -- the sum of all sizes
 abbrev pub bytes : List Item → ℕ
@@ -32,18 +32,18 @@ abbrev pub rest : List Item → List Item
 rest [] = []
 rest (x ∷ l) = l
 
--- ---- a look: "the first that applies is done"
+-- ---- a look: the first rule that applies is carried out (clause 4.10.6)
 
--- "p goes to the one before": the nearest of l, with r after it
+-- p goes to the one before: the nearest of l, with r after it
 abbrev pub stepBack : List Item → List Item → State
 stepBack [] r = record { left = []; right = r }
 stepBack (x ∷ l) r = record { left = l; right = x ∷ r }
 
 -- what an outcome makes of the list, with l before p and r after it; the record made is new and has the bytes fused:
--- 1. "the three become one new record; p goes to the one after it"
--- 2. "p joins it; p goes to the one after"
--- 3. "p joins it; p goes to the one before"
--- 4. "the two become one new record; p goes to the one before it"
+-- 1. the three become one new item, and p goes to the one after it (clause 4.10.7)
+-- 2. p joins the one before, and p goes to the one after (clause 4.10.8)
+-- 3. p joins the one after, and p goes to the one before (clause 4.10.9)
+-- 4. the two become one new item, and p goes to the one before it (clause 4.10.10)
 abbrev pub after : Outcome → List Item → Item → List Item → State
 after (Merged (Both s)) l p r = record { left = new s ∷ rest l; right = rest r }
 after (Merged (Before s)) l p r = record { left = new s ∷ rest l; right = r }
@@ -51,7 +51,7 @@ after (Merged (After s)) l p r = stepBack l (new s ∷ rest r)
 after (Merged (Pair s)) l p r = stepBack l (new s ∷ rest r)
 after Advance l p r = record { left = p ∷ l; right = r }
 
--- "each look .. ends as an advance or as one of the four merges with the bytes it fused", with the list after it
+-- a look ends as an advance or as one of the four merges with the bytes that it fuses (clause 4.10.12); and the list after it
 pub record Look : Type 0 where
   pub outcome : Outcome
   pub next : State
@@ -74,7 +74,7 @@ abbrev pub mergesIn : List Outcome → ℕ
 mergesIn [] = 0
 mergesIn (o ∷ os) = mergeIn o + mergesIn os
 
--- ---- the run: "while p is not the rear, one look is counted, front mark included"
+-- ---- the run: while p is not the rear mark, one look is counted, also at the front mark (clause 4.10.6)
 
 -- where the looks end, and how each of them ended, in their order
 pub record Run : Type 0 where
@@ -97,7 +97,7 @@ run t (suc fuel) l (p ∷ r) =
     let s : Look = lookAt t l p r in
     preceded (s .outcome) (run t fuel (s .next .left) (s .next .right))
 
--- "p starts at the first record, or at the rear if there is none"; 2n looks are enough (`pass-ends`)
+-- p starts at the first item, or at the rear mark if there is none (clause 4.10.5); 2n looks are enough (`pass-ends`)
 unfoldable pub pass : Tests → List Item → Run
 unfolding run
 pass t xs = run t (2 * length xs) (mark ∷ []) xs

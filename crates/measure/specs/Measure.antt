@@ -17,7 +17,7 @@ use Rattle.price.specs.declared.Price.{Price}
 use Rattle.price.specs.declared.Rates.{Rates}
 use Rattle.price.specs.Price.{priceFits, ratesOf, cost}
 
--- "Order": 1, 3; record by record 4, 5, 6
+-- the order of clause 6.1: 1, 3; record by record 4, 5, 6
 abbrev pub measureRuling : Price → List ℕ → Ruling
 measureRuling price list =
     need (priceFits price) fault.Price 0

@@ -49,7 +49,7 @@ entries [] = refl
 entries (New s ∷ l) = omega (arith, entries l)
 entries (Match s a ∷ l) = omega (arith, entries l)
 
--- "F × (EN × new entries + EM × matches) + 256 × stored bytes"
+-- F × (EN × new entries + EM × matches) + 256 × stored bytes (clause 2.5)
 pub cost-at : (k : Price) (l : List Record) → cost (ratesOf k) l ≡ k .f * indexBytes k l + 256 * stored l
 cost-at k l = omega arith
 

@@ -40,7 +40,7 @@ matches [] = 0
 matches (New s ∷ l) = matches l
 matches (Match s a ∷ l) = suc (matches l)
 
--- the index bytes of a list: "EN × new entries + EM × matches"
+-- the index bytes of a list: EN × new entries + EM × matches (clause 2.3)
 abbrev pub indexBytes : Price → List Record → ℕ
 indexBytes k l = k .en * news l + k .em * matches l
 

@@ -15,7 +15,7 @@ use Rattle.format.specs.WellFormed.{Inside}
 use Rattle.area.specs.Area.{over}
 use Rattle.show.specs.Check.{inputsRuling}
 
--- "Order": 2 to 10 as for check, then 9, where the area is shorter than the whole length
+-- the order of clause 6.3: 2 to 10 as for check, then 9, where the area is shorter than the whole length
 abbrev pub rebuildRuling : List ℕ → List ℕ → List ℕ → List ℕ → Ruling
 rebuildRuling list block st area = inputsRuling list block st then need (leb (whole (recordsOf list)) (length area)) AreaTooShort 0
 

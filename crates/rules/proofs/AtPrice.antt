@@ -11,7 +11,7 @@ use Rattle.price.specs.Price.{ratesOf, scaled}
 use Rattle.price.proofs.Scaling.{ltb-scaled}
 use Rattle.rules.specs.Rules.{testsOf}
 
--- "Merge 1 needs 256 × size < F × (EM + EN). Merges 2 and 3 need 256 × size < F × EM. Merge 4 needs 256 × both sizes + F × EN < 2 × F × EM"
+-- merge 1 needs 256 × size < F × (EM + EN); merges 2 and 3 need 256 × size < F × EM; merge 4 needs 256 × both sizes + F × EN < 2 × F × EM
 pub record TestsAt (k : Price) : Type 0 where
   pub both-at : (s : ℕ) → testsOf (ratesOf k) .both s ≡ ltb (256 * s) (k .f * (k .em + k .en))
   pub side-at : (s : ℕ) → testsOf (ratesOf k) .side s ≡ ltb (256 * s) (k .f * k .em)

@@ -1,4 +1,4 @@
--- Document 01, "Pass": what a look comes to. The items of the list, the sizes that the merges take, the first of the five rules that applies; and
+-- What a look of the pass comes to (section 4.10). The items of the list, the sizes that the merges take, the first of the five rules that applies; and
 -- an item as a kind and a size hold it.
 -- Assumes nothing.
 use Prim.Native.Nat.{ℕ, _+_, _*_}
@@ -40,7 +40,7 @@ isMatch (new s) = false
 isMatch (match s) = true
 isMatch (neither s) = false
 
--- ---- a look: "the first that applies is done"
+-- ---- a look: the first rule that applies is carried out (clause 4.10.6)
 
 -- the sizes that the merges take: `both` in merge 1, `side` in merges 2 and 3, `pair` in merge 4, of both sizes together
 pub record Tests : Type 0 where
@@ -61,11 +61,11 @@ testsOf r =
 
 -- how a look at p ends, with b before it, a after it and c second after it; a merge with the bytes that it fuses. As in clauses 4.10.7 to 4.10.11, but for what a
 -- merge needs of the sizes, which is in the tests:
--- 1. "p is a match, both neighbours new"
--- 2. "p is a match, the one before is new"
--- 3. "p is a match, the one after is new"
--- 4. "p and the one after are matches, neither the one before p nor the second after p is new"
--- 5. "Otherwise p goes to the one after"
+-- 1. p is a match, and both neighbours are new
+-- 2. p is a match, and the one before is new
+-- 3. p is a match, and the one after is new
+-- 4. p and the one after are matches, and neither the one before p nor the second after p is new
+-- 5. otherwise p goes to the one after
 abbrev pub outcomeAt : Tests → Item → Item → Item → Item → Outcome
 outcomeAt t b p a c =
     cond (isMatch p && isNew b && isNew a && t .both (size p)) (Merged (Both (size b + size p + size a)))

@@ -14,7 +14,7 @@ use Rattle.format.specs.Meaning.{stored}
 use Rattle.walk.specs.declared.Scope.the-variants as scope
 use Rattle.walk.specs.Checks.{checks, walkRuling}
 
--- "Order": 2, 3; record by record 4, 5, 6, 7; then 10
+-- the order of clause 6.2: 2, 3; record by record 4, 5, 6, 7; then 10
 abbrev pub inputsRuling : List ℕ → List ℕ → List ℕ → Ruling
 inputsRuling list block st =
     need (leb (length st) storeMost) TooLong 0

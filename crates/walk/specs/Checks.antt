@@ -55,7 +55,7 @@ beyond scope.Sizes v st = []
 beyond scope.Store v st = seven (length st) ∷ []
 beyond scope.Version v st = seven (length st) ∷ eight v st ∷ []
 
--- "record by record 4, 5, 6, 7, 8"
+-- record by record 4, 5, 6, 7, 8 (clause 6.5)
 abbrev pub checks : Scope → List ℕ → List ℕ → List Check
 checks x v st = four ∷ five ∷ six (limitOf x v) ∷ beyond x v st
 
