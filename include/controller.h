@@ -2,8 +2,8 @@
  *
  * SCOPE. The calls take lists of records, each new or a match in the store, and say what a list
  * costs, whether it is sound, which version it rebuilds, whether two lists give the same version,
- * and which list costs least. docs/SPECIFICATION.md has the rules, in numbered clauses; "clause"
- * below is one of them.
+ * and which list costs least; and they turn the loose list of a finder into its tidy form.
+ * docs/SPECIFICATION.md has the rules, in numbered clauses; "clause" below is one of them.
  *
  * SURROUNDINGS. Link with libcontroller.a. Nothing is allocated and nothing is kept between calls.
  * Every call returns, on any input. A call may be made from any thread, and several at once, as
@@ -25,7 +25,8 @@
  *   4       4     place: the record concerned, counted from 0; 0 where no record is, and on
  *                 acceptance
  *   8       8     cost, in 256ths of a disk byte
- *   16      4     entries (index entries): records of the list; of compare, 1 for yes, 0 for no
+ *   16      4     entries (index entries): records of the list; of compare, 1 for yes, 0 for no;
+ *                 of tidy, the records written
  *   20      4     stored bytes: the sizes of new records together
  *   24      4     looks
  *   28      4     whole length: all sizes together
@@ -45,7 +46,7 @@
  * A new entry costs F * EN, a match F * EM, a stored byte 256. Every cost is in this unit.
  *
  * THE LIST has 0 to 4,096 records of 12 bytes, in the order of the version. No new record stands
- * right after a new one.
+ * right after a new one, but in a loose list (below).
  *
  *   OFFSET  SIZE  FIELD
  *   0       1     kind: 0 new, 1 match
@@ -57,9 +58,14 @@
  * A finder of matches that would need more than 4,096 records ends its list early: the rest of the
  * version is one new record.
  *
+ * A LOOSE LIST may have new records side by side (clause 1.14). Only check_loose and tidy take such
+ * a list; the other calls refuse it with 5. Tidy writes its tidy form, which every call takes. The
+ * stored block is the same for both.
+ *
  * A HELD MATCH must go on being drawn from the store. Partition, estimate and pass always keep it;
  * commit refuses a choice that does not. It joins a neighbour only where that one is held too. What
- * is written carries the mark. To measure, rebuild, check and compare the mark means nothing.
+ * is written carries the mark. To measure, rebuild, check, compare and check_loose the mark means
+ * nothing.
  *
  * THE NUMBERS, by their cause; number n is clause 5.n:
  *
@@ -75,10 +81,10 @@
  *    3  the list's length is no multiple of 12, or over 49,152
  *    4  a record has a kind over 1, a byte 1 over 1, a nonzero byte 2 or 3, or size 0; or a new
  *       record has a mark or an address
- *    5  a new record stands right after a new one (place: the second)
- *    6  with this record the sizes pass the version's length (in measure, rebuild, check and
- *       compare: 16,777,216); or, in partition, estimate, commit and pass, all sizes end short of
- *       it (place: the number of records)
+ *    5  a new record stands right after a new one (place: the second); no fault in a loose list
+ *    6  with this record the sizes pass the version's length (in measure, rebuild, check, compare,
+ *       check_loose and tidy: 16,777,216); or, in partition, estimate, commit and pass, all sizes
+ *       end short of it (place: the number of records)
  *    7  a match runs beyond the store
  *    8  a match's bytes differ from the version
  *   the disk
@@ -98,7 +104,7 @@ extern "C" {
 #define ANSWER_BYTES 32
 
 /* The version of this library: it grows when a call, an answer or a number changes. */
-#define CONTROLLER_VERSION 7
+#define CONTROLLER_VERSION 8
 
 /* EN and EM are 1 to E_MOST, F is 1 to F_MOST. */
 #define E_MOST 255
@@ -344,6 +350,39 @@ uint32_t pass(uint32_t en, uint32_t em, uint32_t f,
               uint8_t *choice, size_t choice_len,
               uint8_t *list_area, size_t list_area_len,
               uint8_t *block_area, size_t block_area_len,
+              uint8_t *answer, size_t answer_len);
+
+/* check_loose - whether a loose list and the store are sound (section 4.11).
+ *
+ * Does: makes check's checks, but for 5, and without a stored block and a place k. So a list
+ *   without records is accepted.
+ * Areas: list, which may have new records side by side; store.
+ * Writes: answer (number and place alone).
+ * Refuses, in this order: 2 at 0; 3 at 0; record by record 4, 6, 7 at the record.
+ * On refusal: answer holds number and place.
+ * Returns: the number.
+ * Stack: at most 512 bytes. */
+uint32_t check_loose(const uint8_t *list, size_t list_len,
+                     const uint8_t *store, size_t store_len,
+                     uint8_t *answer, size_t answer_len);
+
+/* tidy - the tidy form of a loose list (section 4.12).
+ *
+ * Does: fuses new records that stand side by side, and joins matches as partition does: where the
+ *   second begins in the store where the first ends and both are held or neither is. Every byte of
+ *   the version stays new or drawn from its address, so the stored block needs no change. A list
+ *   that partition, commit or pass wrote comes back as it is.
+ * Areas: list, which may have new records side by side; store; list_area, at least as long as list,
+ *   though the tidy form may be shorter.
+ * Writes: the first bytes of list_area, 12 for each record of the tidy form; answer (entries: the
+ *   records written).
+ * Refuses, in this order: 2 at 0; 3 at 0; 9 at 0; record by record 4, 6, 7 at the record.
+ * On refusal: answer holds number and place; list_area is unchanged.
+ * Returns: the number.
+ * Stack: at most 512 bytes. */
+uint32_t tidy(const uint8_t *list, size_t list_len,
+              const uint8_t *store, size_t store_len,
+              uint8_t *list_area, size_t list_area_len,
               uint8_t *answer, size_t answer_len);
 
 #ifdef __cplusplus

@@ -23,10 +23,11 @@ enum { EN = 12, EM = 16, F = 4 * 256 };
 
 /* ---- The inputs ---- */
 
-enum kinds { MATCHES, NEWS, TURNS, RUNS, SOME_HELD };
+enum kinds { MATCHES, NEWS, TURNS, RUNS, SOME_HELD, HALVES };
 
-/* A list: so many records over so many bytes, all matches, all new (which is one record) or in turns; 0 bytes: small records, by chance, in runs, or
- * by chance with some matches held. The second list gives the same version, or one whose first byte differs. */
+/* A list: so many records over so many bytes, all matches, all new (which is one record) or in turns; 0 bytes: small records, by chance, in runs,
+ * by chance with some matches held, or by chance and then, in the loose list, cut in halves. The second list gives the same version, or one whose
+ * first byte differs. */
 struct shape {
     const char *name;
     uint32_t records, bytes;
@@ -34,13 +35,13 @@ struct shape {
     int differs;
 };
 
-/* One list with its version, store and stored block; a second list of that version, with its stored block; the least choice, for commit; and the
- * areas to write. */
+/* One list with its version, store and stored block; a second list of that version, with its stored block; the list as check_loose and tidy take it;
+ * the least choice, for commit; and the areas to write. */
 static struct {
     uint8_t list[RECORDS_MOST * RECORD_BYTES], list_area[RECORDS_MOST * RECORD_BYTES], choice[RECORDS_MOST], least[RECORDS_MOST];
-    uint8_t second[RECORDS_MOST * RECORD_BYTES];
+    uint8_t second[RECORDS_MOST * RECORD_BYTES], loose[RECORDS_MOST * RECORD_BYTES];
     uint8_t *version, *store, *block, *second_block, *area;
-    size_t list_len, version_len, block_len, second_block_len;
+    size_t list_len, loose_len, version_len, block_len, second_block_len;
 } in;
 
 #define SEED UINT64_C(0x9e3779b97f4a7c15)
@@ -95,6 +96,14 @@ static void add_small_or_held(int *after_new)
     in.list[in.list_len - RECORD_BYTES + 1] = !*after_new && draw() % 3 == 0;
 }
 
+/* A small record that can be cut, of 2 to 128 bytes. */
+static void add_to_cut(int *after_new)
+{
+    const uint32_t size = 2 + draw() % (draw() % 2 ? 47 : 127);
+    *after_new = !*after_new && draw() % 3 == 0;
+    add(!*after_new, size, draw() % 65536);
+}
+
 /* A small match, of 1 to 48 bytes: half of them go on in the store where the match before them ended. */
 static void add_to_run(uint32_t *end)
 {
@@ -106,6 +115,26 @@ static void add_to_run(uint32_t *end)
 static uint32_t number_at(const uint8_t *at)
 {
     return (uint32_t)at[0] | (uint32_t)at[1] << 8 | (uint32_t)at[2] << 16 | (uint32_t)at[3] << 24;
+}
+
+/* The loose list: each record in halves, of which the second half of a match goes on in the store; or as it is. */
+static void set_loose(int in_halves)
+{
+    in.loose_len = 0;
+    for (size_t i = 0; i < in.list_len; i += RECORD_BYTES) {
+        uint8_t *record = in.loose + in.loose_len;
+        const uint32_t size = number_at(in.list + i + 4), half = size / 2;
+        memcpy(record, in.list + i, RECORD_BYTES);
+        in.loose_len += RECORD_BYTES;
+        if (!in_halves)
+            continue;
+        memcpy(record + RECORD_BYTES, record, RECORD_BYTES);
+        put_number(record + 4, half);
+        put_number(record + RECORD_BYTES + 4, size - half);
+        if (record[0] == KIND_MATCH)
+            put_number(record + RECORD_BYTES + 8, number_at(record + 8) + half);
+        in.loose_len += RECORD_BYTES;
+    }
 }
 
 /* The second list, cut at other places: of a match behind a new record, the first half is stored with that. */
@@ -150,6 +179,8 @@ static void set_input(const struct shape *shape)
                 add_to_run(&end);
             else if (shape->kinds == SOME_HELD)
                 add_small_or_held(&after_new);
+            else if (shape->kinds == HALVES)
+                add_to_cut(&after_new);
             else
                 add_small(&after_new);
             continue;
@@ -158,6 +189,7 @@ static void set_input(const struct shape *shape)
         const int is_match = shape->kinds == MATCHES || (shape->kinds == TURNS && i % 2 == 1);
         add(is_match, size, (shape->records - 1 - i) * size);
     }
+    set_loose(shape->kinds == HALVES);
     set_second();
     if (shape->differs)
         in.second_block[0] ^= 1;
@@ -189,10 +221,12 @@ static void set_up(void)
 
 /* ---- The calls ---- */
 
-enum { MEASURE, CHECK, COMPARE, REBUILD, PARTITION, ESTIMATE, COMMIT, PASS, CALLS };
+enum { MEASURE, CHECK, COMPARE, REBUILD, PARTITION, ESTIMATE, COMMIT, PASS, CHECK_LOOSE, TIDY, CALLS };
 enum side { LIBRARY, REFERENCE, SIDES };
 
-static const char *const call_name[CALLS] = { "measure", "check", "compare", "rebuild", "partition", "estimate", "commit", "pass" };
+static const char *const call_name[CALLS] = {
+    "measure", "check", "compare", "rebuild", "partition", "estimate", "commit", "pass", "check_loose", "tidy",
+};
 
 static uint8_t answer[SIDES][ANSWER_BYTES];
 
@@ -225,6 +259,10 @@ static uint32_t make_call(int call, enum side side)
         return (ref ? ref_commit : commit)(EN, EM, F, in.list, in.list_len, in.version, in.version_len, in.store, VERSION_MOST,
                                            in.least, in.list_len / RECORD_BYTES, in.list_area, sizeof in.list_area, in.area,
                                            VERSION_MOST, to, ANSWER_BYTES);
+    case CHECK_LOOSE:
+        return (ref ? ref_check_loose : check_loose)(in.loose, in.loose_len, in.store, VERSION_MOST, to, ANSWER_BYTES);
+    case TIDY:
+        return (ref ? ref_tidy : tidy)(in.loose, in.loose_len, in.store, VERSION_MOST, in.list_area, sizeof in.list_area, to, ANSWER_BYTES);
     default:
         return (ref ? ref_pass : pass)(EN, EM, F, in.list, in.list_len, in.version, in.version_len, in.store, VERSION_MOST,
                                        in.choice, RECORDS_MOST, in.list_area, sizeof in.list_area, in.area, VERSION_MOST,
@@ -317,6 +355,7 @@ static const struct shape one_new = { "16 MiB, one new record", 1, VERSION_MOST,
 static const struct shape small = { "4,096 small records", RECORDS_MOST, 0, TURNS, 0 };
 static const struct shape runs = { "4,096 matches in runs", RECORDS_MOST, 0, RUNS, 0 };
 static const struct shape some_held = { "4,096 small, some held", RECORDS_MOST, 0, SOME_HELD, 0 };
+static const struct shape halves = { "4,096 loose, in halves", RECORDS_MOST / 2, 0, HALVES, 0 };
 static const struct shape even = { "4,096 records of 48 bytes", RECORDS_MOST, 48 * RECORDS_MOST, TURNS, 0 };
 static const struct shape even_512 = { "512 records of 48 bytes", 512, 48 * 512, TURNS, 0 };
 static const struct shape few_1 = { "1 MiB, 8 records", 8, VERSION_MOST / 16, TURNS, 0 };
@@ -324,7 +363,7 @@ static const struct shape few_1 = { "1 MiB, 8 records", 8, VERSION_MOST / 16, TU
 static void print_times(int call, const struct shape *shape)
 {
     const struct times t = time_call(call, shape);
-    printf("%-10s %-23s %12.2f %12.2f %8.2f\n", call_name[call], shape->name, 1e6 * t.of[LIBRARY], 1e6 * t.of[REFERENCE],
+    printf("%-11s %-23s %12.2f %12.2f %8.2f\n", call_name[call], shape->name, 1e6 * t.of[LIBRARY], 1e6 * t.of[REFERENCE],
            t.of[LIBRARY] / t.of[REFERENCE]);
     fflush(stdout);
 }
@@ -332,7 +371,7 @@ static void print_times(int call, const struct shape *shape)
 static void print_growth(int call, const struct shape *from, const struct shape *to, const char *name)
 {
     const struct times a = time_call(call, from), b = time_call(call, to);
-    printf("%-10s %-23s %12.2f %12.2f\n", call_name[call], name, b.of[LIBRARY] / a.of[LIBRARY], b.of[REFERENCE] / a.of[REFERENCE]);
+    printf("%-11s %-23s %12.2f %12.2f\n", call_name[call], name, b.of[LIBRARY] / a.of[LIBRARY], b.of[REFERENCE] / a.of[REFERENCE]);
     fflush(stdout);
 }
 
@@ -343,11 +382,12 @@ static const struct {
 } timed[] = {
     { &few, MEASURE, PASS }, { &unlike, COMPARE, COMPARE }, { &many, MEASURE, PASS }, { &one_match, REBUILD, PASS },
     { &one_new, REBUILD, PASS }, { &small, MEASURE, PASS }, { &runs, PARTITION, PASS }, { &some_held, PARTITION, PASS },
+    { &halves, CHECK_LOOSE, TIDY }, { &small, TIDY, TIDY }, { &runs, TIDY, TIDY },
 };
 
 static void print_all_times(void)
 {
-    printf("%-10s %-23s %12s %12s %8s\n", "call", "input", "library us", "reference us", "ratio");
+    printf("%-11s %-23s %12s %12s %8s\n", "call", "input", "library us", "reference us", "ratio");
     for (int call = 0; call < CALLS; call++)
         for (unsigned i = 0; i < sizeof timed / sizeof *timed; i++)
             if (timed[i].first <= call && call <= timed[i].last)
@@ -357,10 +397,10 @@ static void print_all_times(void)
 static void print_all_growth(void)
 {
     printf("\nHow many times as long: from 512 records of 48 bytes to 4,096, and 8 records from 1 MiB to 16 MiB, which no longer\n"
-           "fit the nearer caches.\n\n%-10s %-23s %12s %12s\n", "call", "growth", "library", "reference");
+           "fit the nearer caches.\n\n%-11s %-23s %12s %12s\n", "call", "growth", "library", "reference");
     for (int call = 0; call < CALLS; call++)
         print_growth(call, &even_512, &even, "512 to 4,096 records");
-    for (int call = 0; call < CALLS; call++)
+    for (int call = 0; call <= PASS; call++)
         print_growth(call, &few_1, &few, "1 to 16 MiB");
 }
 
@@ -376,7 +416,7 @@ int main(int count, char **arguments)
            "Records in turns are new, match, new, match, of one size; small ones have 1 to 128 bytes, new or match by chance; of the matches in\n"
            "runs, of 1 to 48 bytes, half go on in the store; where some are held, it is one match of three. The second list of compare gives the\n"
            "same version, cut at other places: of a match behind a new record, half is stored with that; once its first byte differs. Commit is\n"
-           "handed the least choice.\n\n",
+           "handed the least choice. The loose list in halves is 2,048 records of 2 to 128 bytes, new or match by chance, each cut in two.\n\n",
            SAMPLES, EN, EM, F);
     print_all_times();
     print_all_growth();

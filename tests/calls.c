@@ -4,8 +4,8 @@
  * wrong as a case needs it: X is kind 2, N may have an address, "!2" sets byte 2 to 7, and "!2=9" sets it to 9. Every area is longer than what a
  * case lends of it and is filled beforehand, and after the call it is looked at to its last byte: what the call should not write must still hold
  * the filling. A choice is written as its bytes, "101", X for 255. What partition gives, estimate and then commit must give too; the list that
- * partition wrote is handed in again, and must come back. For each size up to 136 one case each of partition, estimate, commit, pass and compare lets
- * a match differ at every byte, at every pair of places within a word.
+ * partition wrote is handed in again, and must come back, and so must the list that tidy wrote. For each size up to 136 one case each of partition,
+ * estimate, commit, pass and compare lets a match differ at every byte, at every pair of places within a word.
  * Exit 0 and one line, with the number of cases, where all is as it should be, else 1 and a line for each case that is not.
  */
 #include <stdio.h>
@@ -14,7 +14,7 @@
 
 #include "controller.h"
 
-#define CASES 1650
+#define CASES 2312
 #define FILL 0xA5
 #define AREA 256
 
@@ -1094,6 +1094,246 @@ static void test_no_choice(void)
     expect("commit", "12 in areas just long enough", refused(called(committed, just_enough, n, VERSION_6, STORE), 12, 4));
 }
 
+/* ---- Check_loose and tidy ---- */
+
+/* The store of the worked examples (clause 10.10); the other cases are over the letters A to T. Neither call reads a byte of it. */
+static const char ababc[] = "ABABC";
+
+static uint8_t list_before[AREA];
+
+static uint32_t checked_loose(size_t n, const char *store, size_t store_length)
+{
+    fill_areas();
+    memcpy(list_before, list, AREA);
+    return check_loose(list, n, (const uint8_t *)store, store_length, answer, sizeof answer);
+}
+
+static uint32_t tidied(size_t n, const char *store, size_t store_length, size_t room)
+{
+    fill_areas();
+    memcpy(list_before, list, AREA);
+    return tidy(list, n, (const uint8_t *)store, store_length, list_area, room, answer, sizeof answer);
+}
+
+/* Whether tidy wrote this list, no byte behind it and no other area, and answered just the number of its records. */
+static int wrote(uint32_t returned, const uint8_t *wanted, size_t length)
+{
+    return answered(returned, (struct values){ .entries = (uint32_t)(length / RECORD_BYTES) }) && holds(list_area, wanted, length)
+        && holds(area, "", 0) && holds(choice, "", 0) && holds(block_area, "", 0) && memcmp(list, list_before, AREA) == 0;
+}
+
+/* Whether one of the two calls refused, and left the list as it was. */
+static int refused_loose(uint32_t returned, uint32_t number, uint32_t place)
+{
+    return refused(returned, number, place) && memcmp(list, list_before, AREA) == 0;
+}
+
+/* A loose list and its tidy form, in an area longer by so many bytes. */
+static const struct {
+    const char *what, *store, *list, *tidy;
+    size_t more;
+} loose_lists[] = {
+    { "no records", ababc, "", "", 0 },
+    { "two new records", ababc, "N1 N1", "N2", 0 },
+    { "three new records", ababc, "N1 N2 N1", "N4", 0 },
+    { "two matches of a byte that go on", ababc, "M1@0 M1@1", "M2@0", 0 },
+    { "two matches that go on", ababc, "M2@0 M2@2", "M4@0", 0 },
+    { "a match a byte behind the end of another", ababc, "M2@0 M2@3", "M2@0 M2@3", 0 },
+    { "a held match that begins where a match ends", ababc, "M2@0 H2@2", "M2@0 H2@2", 0 },
+    { "a held run, and a match where it ends", ababc, "H1@0 H1@1 M1@2", "H2@0 M1@2", 0 },
+    { "a run between new records", ababc, "N1 M1@0 M1@1 N1 N1", "N1 M2@0 N2", 0 },
+    { "two new records in 25 bytes", ababc, "N1 N1", "N2", 1 },
+    { "no records in 12 bytes", letters, "", "", 12 },
+    { "one new record", letters, "N7", "N7", 0 },
+    { "one match", letters, "M7@3", "M7@3", 0 },
+    { "one held match", letters, "H7@3", "H7@3", 0 },
+    { "one new record in 24 bytes", letters, "N7", "N7", 12 },
+    { "one new record in 13 bytes", letters, "N7", "N7", 1 },
+    { "a sheet's list", letters, "N5 M19@0 N5", "N5 M19@0 N5", 0 },
+    { "four new records of different sizes", letters, "N5 N1 N4 N2", "N12", 0 },
+    { "eight new records in a longer area", letters, "N1 N2 N3 N4 N5 N6 N7 N8", "N36", 100 },
+    { "a run of three", letters, "M2@0 M3@2 M4@5", "M9@0", 0 },
+    { "a run of three that begins at 5", letters, "M4@5 M3@9 M8@12", "M15@5", 0 },
+    { "a run of two and another match", letters, "M2@0 M2@2 M2@5", "M4@0 M2@5", 0 },
+    { "a match and a run of two", letters, "M2@0 M2@3 M2@5", "M2@0 M4@3", 0 },
+    { "two runs side by side", letters, "M2@0 M2@2 M2@10 M2@12", "M4@0 M4@10", 0 },
+    { "a run of all the store", letters, "M10@0 M10@10", "M20@0", 0 },
+    { "a run to the end of the store, byte by byte", letters, "M1@16 M1@17 M1@18 M1@19", "M4@16", 0 },
+    { "the same match twice", letters, "M2@0 M2@0", "M2@0 M2@0", 0 },
+    { "a match before the one before it", letters, "M2@2 M2@0", "M2@2 M2@0", 0 },
+    { "a match from the last byte of another on", letters, "M2@0 M2@1", "M2@0 M2@1", 0 },
+    { "a gap of a byte", letters, "M3@0 M3@4", "M3@0 M3@4", 0 },
+    { "where the second of two matches would end", letters, "M2@0 M3@5", "M2@0 M3@5", 0 },
+    { "held, then not", letters, "H2@0 M2@2", "H2@0 M2@2", 0 },
+    { "a held run of two", letters, "H2@0 H2@2", "H4@0", 0 },
+    { "a held run of three", letters, "H2@0 H3@2 H4@5", "H9@0", 0 },
+    { "a held match within a run", letters, "M1@0 H1@1 M1@2", "M1@0 H1@1 M1@2", 0 },
+    { "a match within a held run", letters, "H1@0 M1@1 H1@2", "H1@0 M1@1 H1@2", 0 },
+    { "a held run of two within a run", letters, "M1@0 H1@1 H1@2 M1@3", "M1@0 H2@1 M1@3", 0 },
+    { "a run of two, then a held one", letters, "M1@0 M1@1 H1@2 H1@3", "M2@0 H2@2", 0 },
+    { "a held run of two, then a run", letters, "H1@0 H1@1 M1@2 M1@3", "H2@0 M2@2", 0 },
+    { "held matches with a gap", letters, "H2@0 H2@3", "H2@0 H2@3", 0 },
+    { "matches that go on behind a new record", letters, "M2@0 N1 M2@2", "M2@0 N1 M2@2", 0 },
+    { "matches that go on behind two new records", letters, "M2@0 N1 N1 M2@2", "M2@0 N2 M2@2", 0 },
+    { "held matches that go on behind a new record", letters, "H2@0 N1 H2@2", "H2@0 N1 H2@2", 0 },
+    { "new records with a match between", letters, "N1 M2@0 N1", "N1 M2@0 N1", 0 },
+    { "new records with a run between", letters, "N1 N1 M1@0 M1@1 N1 N1", "N2 M2@0 N2", 0 },
+    { "new records between two runs", letters, "M2@0 M2@2 M2@4 N3 N4 M1@6 M1@7", "M6@0 N7 M2@6", 0 },
+    { "a match at the size of the new record before it", letters, "N2 M2@2", "N2 M2@2", 0 },
+    { "a held match at the size of the new record before it", letters, "N2 H2@2", "N2 H2@2", 0 },
+    { "a match at 0 behind a new record", letters, "N2 N2 M2@0", "N4 M2@0", 0 },
+    { "a new record behind a match at 0", letters, "M2@0 N2 N2", "M2@0 N4", 0 },
+    { "new records last", letters, "M2@4 M2@6 N1 N1 N1", "M4@4 N3", 0 },
+    { "a run last", letters, "N1 N1 N1 M2@4 M2@6 M2@8", "N3 M6@4", 0 },
+    { "a match of 5 at 15", letters, "N1 N1 M5@15", "N2 M5@15", 0 },
+    { "a sum of 256", letters, "N255 N1", "N256", 0 },
+    { "a sum of 300", letters, "N200 N100", "N300", 0 },
+    { "a sum of 65536", letters, "N65535 N1", "N65536", 0 },
+    { "sizes of 16777216 in two", letters, "N16777215 N1", "N16777216", 0 },
+    { "sizes of 16777216 in halves", letters, "N8388608 N8388608", "N16777216", 0 },
+    { "sizes of 16777216 in one", letters, "N16777216", "N16777216", 0 },
+    { "sizes of 16777216 with a match", letters, "N8388608 M20@0 N8388587 N1", "N8388608 M20@0 N8388588", 0 },
+    { "sizes of 16777216 with a match last", letters, "N16777196 M20@0", "N16777196 M20@0", 0 },
+};
+
+/* Refused by both calls; of a store of so many bytes. */
+static const struct {
+    const char *what, *list;
+    size_t store;
+    uint32_t number, place;
+} bad_loose[] = {
+    { "kind 2", "X5@0", 20, 4, 0 },
+    { "kind 2 after new records", "N1 N1 X5@0", 20, 4, 2 },
+    { "kind 255", "N1 M5@0!0=255", 20, 4, 1 },
+    { "kind 2 with the mark", "N1 X5@0!1=1", 20, 4, 1 },
+    { "a mark on a new record", "N5!1=1", 20, 4, 0 },
+    { "a mark on a new record after a new one", "N5 N5!1=1", 20, 4, 1 },
+    { "byte 1 of a new record", "N5!1", 20, 4, 0 },
+    { "byte 2 of a new record", "N5 N5!2", 20, 4, 1 },
+    { "byte 3 of a new record", "N5 N5!3", 20, 4, 1 },
+    { "byte 1 of a match at 2", "M1@0 M1@1!1=2", 20, 4, 1 },
+    { "byte 1 of a match at 255", "M1@0 M1@1!1=255", 20, 4, 1 },
+    { "byte 2 of a match", "M1@0 M1@1!2", 20, 4, 1 },
+    { "byte 3 of a match", "M1@0 M1@1!3", 20, 4, 1 },
+    { "byte 2 of a held match", "H1@0 H1@1!2", 20, 4, 1 },
+    { "byte 3 of a held match", "H1@0 H1@1!3", 20, 4, 1 },
+    { "a new record of size 0", "N0", 20, 4, 0 },
+    { "a new record of size 0 after a new one", "N1 N0", 20, 4, 1 },
+    { "a match of size 0", "M1@0 M0@1", 20, 4, 1 },
+    { "a held match of size 0", "N1 N1 H0@0", 20, 4, 2 },
+    { "new with address 1", "N1 N1@1", 20, 4, 1 },
+    { "new with address 256", "N1 N1@256", 20, 4, 1 },
+    { "new with address 65536", "M1@0 N1@65536", 20, 4, 1 },
+    { "new with address 16777216", "N1@16777216", 20, 4, 0 },
+    { "4 at the last of many", "N1 N1 N1 M1@0 M1@1 M1@2 N1 N0", 20, 4, 7 },
+    { "one record of 16777217", "N16777217", 20, 6, 0 },
+    { "sizes of 16777217 with two new records", "N1 N16777216", 20, 6, 1 },
+    { "sizes of 16777217 by a last byte", "N16777216 N1", 20, 6, 1 },
+    { "sizes of 16777217 with three new records", "N8388608 N8388608 N1", 20, 6, 2 },
+    { "sizes of 16777217 by a match", "N16777215 N1 M1@0", 20, 6, 2 },
+    { "sizes of 16777217 by a held match", "N16777215 N1 H1@0", 20, 6, 2 },
+    { "sizes of 16777217 by a new record after a match", "M20@0 N16777197", 20, 6, 1 },
+    { "6 at a match as long as a version", "N5 M16777216@0", 20, 6, 1 },
+    { "6 at the second of three", "N1 N16777216 N1", 20, 6, 1 },
+    { "sizes that pass 2^32", "N1 N4294967295", 20, 6, 1 },
+    { "sizes that pass 2^32 and end at 16777215", "N16777216 N4294967295", 20, 6, 1 },
+    { "sizes that pass 2^32 by a match", "N1 M4294967295@0", 20, 6, 1 },
+    { "a match of 5 at 15 in a store of 19", "N1 N1 M5@15", 19, 7, 2 },
+    { "a held match of 5 at 15 in a store of 19", "H5@15", 19, 7, 0 },
+    { "a match of 21 in a store of 20", "M21@0", 20, 7, 0 },
+    { "address 20 in a store of 20", "M20@0 M1@20", 20, 7, 1 },
+    { "a run that goes on beyond the store", "M10@0 M9@10 M2@19", 20, 7, 2 },
+    { "a match in no store", "N1 N1 M1@0", 0, 7, 2 },
+    { "address 4294967295", "M1@4294967295", 20, 7, 0 },
+    { "address 4294967295 and a size of 16777216", "M16777216@4294967295", 20, 7, 0 },
+    { "address and size together 2^32", "M16777216@4278190080", 20, 7, 0 },
+    { "address and size together 2^32 and 4", "M5@4294967295", 20, 7, 0 },
+    { "sizes of 16777216, which pass check 6", "N16777211 N4 M1@20", 20, 7, 2 },
+    { "4 before 6", "N5 N16777216!2", 20, 4, 1 },
+    { "4 before 7", "M1@20!2", 20, 4, 0 },
+    { "6 before 7", "N5 M16777216@4294967295", 20, 6, 1 },
+    { "6 at 1 before 4 at 2", "N1 N16777216 N0", 20, 6, 1 },
+    { "7 at 0 before 4 at 1", "M1@20 N0", 20, 7, 0 },
+    { "7 at 0 before 6 at 1", "M1@20 N16777216", 20, 7, 0 },
+    { "7 at 2 behind new records side by side", "N1 N1 M2@4", 5, 7, 2 },
+};
+
+/* What tidy wrote is handed in again and must come back. One byte less than the loose list, the length of the tidy form where that is less, and no
+ * byte, are too short an area. */
+static void test_loose_lists(void)
+{
+    char what[96];
+    uint8_t wanted[AREA];
+    for (size_t i = 0; i < sizeof loose_lists / sizeof *loose_lists; i++) {
+        const char *store = loose_lists[i].store;
+        const size_t n = list_of(loose_lists[i].list, list), m = list_of(loose_lists[i].tidy, wanted), length = strlen(store);
+        expect("check_loose", loose_lists[i].what, refused_loose(checked_loose(n, store, length), 0, 0));
+        expect("tidy", loose_lists[i].what, wrote(tidied(n, store, length, n + loose_lists[i].more), wanted, m));
+        const size_t short_rooms[] = { n - 1, m, 0 };
+        for (size_t k = 0; k < 3; k++)
+            if (short_rooms[k] < n) {
+                snprintf(what, sizeof what, "%s, %zu bytes in an area of %zu", loose_lists[i].what, n, short_rooms[k]);
+                expect("tidy", what, refused_loose(tidied(n, store, length, short_rooms[k]), 9, 0));
+            }
+        memcpy(list, wanted, m);
+        snprintf(what, sizeof what, "%s, tidied again", loose_lists[i].what);
+        expect("tidy", what, wrote(tidied(m, store, length, m), wanted, m));
+    }
+}
+
+/* Each refusal also in a longer area; a byte less than the loose list needs is said first. */
+static void test_bad_loose(void)
+{
+    char what[96];
+    for (size_t i = 0; i < sizeof bad_loose / sizeof *bad_loose; i++) {
+        const size_t n = list_of(bad_loose[i].list, list), store = bad_loose[i].store;
+        const uint32_t number = bad_loose[i].number, place = bad_loose[i].place;
+        expect("check_loose", bad_loose[i].what, refused_loose(checked_loose(n, letters, store), number, place));
+        expect("tidy", bad_loose[i].what, refused_loose(tidied(n, letters, store, n), number, place));
+        snprintf(what, sizeof what, "%s, in a longer area", bad_loose[i].what);
+        expect("tidy", what, refused_loose(tidied(n, letters, store, AREA), number, place));
+        snprintf(what, sizeof what, "%s, 9 before it", bad_loose[i].what);
+        expect("tidy", what, refused_loose(tidied(n, letters, store, n - 1), 9, 0));
+    }
+}
+
+/* 3 in an area of any length, also where the records would be refused. */
+static void test_loose_lengths(void)
+{
+    const size_t lengths[] = { 1, 11, 13, 23, 25 }, rooms[] = { 0, 12, 13, AREA };
+    char what[96];
+    for (size_t i = 0; i < sizeof lengths / sizeof *lengths; i++)
+        for (int sound = 0; sound < 2; sound++) {
+            list_of(sound ? "N1 N1 N1" : "N0 N0 N0", list);
+            snprintf(what, sizeof what, "%zu bytes, %s records", lengths[i], sound ? "sound" : "malformed");
+            expect("check_loose", what, refused_loose(checked_loose(lengths[i], letters, 20), 3, 0));
+            for (size_t k = 0; k < sizeof rooms / sizeof *rooms; k++) {
+                snprintf(what, sizeof what, "%zu bytes, %s records, in an area of %zu", lengths[i], sound ? "sound" : "malformed", rooms[k]);
+                expect("tidy", what, refused_loose(tidied(lengths[i], letters, 20, rooms[k]), 3, 0));
+            }
+        }
+    list_of("N1 N1", list);
+    for (size_t less = 1; less <= ANSWER_BYTES; less += ANSWER_BYTES - 1) {
+        snprintf(what, sizeof what, "an answer area of %zu bytes", ANSWER_BYTES - less);
+        fill_areas();
+        expect("check_loose", what, not_made(check_loose(list, 24, (const uint8_t *)letters, 20, answer, ANSWER_BYTES - less)));
+        fill_areas();
+        expect("tidy", what, not_made(tidy(list, 24, (const uint8_t *)letters, 20, list_area, AREA, answer, ANSWER_BYTES - less)));
+        snprintf(what, sizeof what, "an answer area of %zu bytes before 3", ANSWER_BYTES - less);
+        fill_areas();
+        expect("check_loose", what, not_made(check_loose(list, 11, (const uint8_t *)letters, 20, answer, ANSWER_BYTES - less)));
+        fill_areas();
+        expect("tidy", what, not_made(tidy(list, 11, (const uint8_t *)letters, 20, list_area, 0, answer, ANSWER_BYTES - less)));
+    }
+    const uint8_t wanted[RECORD_BYTES] = { 0, 0, 0, 0, 2 };
+    fill_areas();
+    memcpy(list_before, list, AREA);
+    expect("check_loose", "an answer area of 32 bytes", refused(check_loose(list, 24, (const uint8_t *)letters, 20, answer, ANSWER_BYTES), 0, 0));
+    fill_areas();
+    expect("tidy", "an answer area of 32 bytes", wrote(tidy(list, 24, (const uint8_t *)letters, 20, list_area, AREA, answer, ANSWER_BYTES), wanted,
+        sizeof wanted));
+}
+
 /* ---- Partition, estimate, commit, pass and compare: one byte that differs, at each position ---- */
 
 enum { LONGEST = 136, WORD = 8 };
@@ -1474,6 +1714,103 @@ static void test_greatest_choices(void)
     free(great.list), free(great.bits), free(great.bytes), free(great.out), free(great.stored), free(great.wanted);
 }
 
+/* The most records of a loose list, the list that should be written, and the area, with a guard behind each limit. */
+static struct {
+    uint8_t *list, *wanted, *out, *store;
+} loose;
+
+static void put_loose(uint32_t i, char as, uint32_t size, uint32_t address)
+{
+    put_record(loose.list, i, as == 'N' ? KIND_NEW : KIND_MATCH, size, address);
+    loose.list[RECORD_BYTES * i + 1] = as == 'H' ? MARK_HELD : 0;
+}
+
+static void want(uint32_t i, char as, uint32_t size, uint32_t address)
+{
+    put_record(loose.wanted, i, as == 'N' ? KIND_NEW : KIND_MATCH, size, address);
+    loose.wanted[RECORD_BYTES * i + 1] = as == 'H' ? MARK_HELD : 0;
+}
+
+static uint32_t loose_tidied(size_t length, size_t room)
+{
+    fill_areas();
+    memset(loose.out, FILL, LENGTH + RECORD_BYTES);
+    return tidy(loose.list, length, loose.store, VERSION_MOST, loose.out, room, answer, sizeof answer);
+}
+
+/* Both calls accept the 4,096 records; tidy writes so many, the wanted ones. */
+static void expect_great(const char *what, uint32_t records)
+{
+    const size_t written = RECORD_BYTES * records;
+    fill_areas();
+    expect("check_loose", what, refused(check_loose(loose.list, LENGTH, loose.store, VERSION_MOST, answer, sizeof answer), 0, 0));
+    expect("tidy", what, answered(loose_tidied(LENGTH, LENGTH), (struct values){ .entries = records }) && untouched()
+        && memcmp(loose.out, loose.wanted, written) == 0 && all_are(loose.out + written, LENGTH + RECORD_BYTES - written, FILL));
+}
+
+/* Both calls refuse so many bytes of the list, in an area of so many. */
+static void expect_no_great(const char *what, size_t length, size_t room, uint32_t number, uint32_t place)
+{
+    fill_areas();
+    expect("check_loose", what, refused(check_loose(loose.list, length, loose.store, VERSION_MOST, answer, sizeof answer), number, place));
+    expect("tidy", what, refused(loose_tidied(length, room), number, place) && all_are(loose.out, LENGTH + RECORD_BYTES, FILL));
+}
+
+/* 4,096 records that cover 16,777,216 bytes: new, going on, held; in turns; in halves of new records and matches. */
+static void test_greatest_loose(void)
+{
+    loose.list = memory(LENGTH + RECORD_BYTES), loose.wanted = memory(LENGTH), loose.out = memory(LENGTH + RECORD_BYTES);
+    loose.store = memory(VERSION_MOST);
+    hand("");
+    expect_no_great("49,152 zero bytes, which pass check 3", LENGTH, LENGTH, 4, 0);
+    expect_no_great("49,164 bytes", LENGTH + RECORD_BYTES, LENGTH + RECORD_BYTES, 3, 0);
+    expect_no_great("49,151 bytes", LENGTH - 1, LENGTH, 3, 0);
+    expect_no_great("49,164 bytes in a shorter area", LENGTH + RECORD_BYTES, LENGTH, 3, 0);
+    expect("tidy", "49,152 zero bytes in 49,151", refused(loose_tidied(LENGTH, LENGTH - 1), 9, 0)
+        && all_are(loose.out, LENGTH + RECORD_BYTES, FILL));
+    for (uint32_t i = 0; i < RECORDS_MOST; i++)
+        put_loose(i, 'N', PART, 0);
+    want(0, 'N', VERSION_MOST, 0);
+    expect_great("4,096 new records", 1);
+    expect("tidy", "4,096 new records in 49,151 bytes", refused(loose_tidied(LENGTH, LENGTH - 1), 9, 0)
+        && all_are(loose.out, LENGTH + RECORD_BYTES, FILL));
+    put_loose(RECORDS_MOST - 1, 'N', PART + 1, 0);
+    expect_no_great("a byte too many in the last of 4,096 new records", LENGTH, LENGTH, 6, RECORDS_MOST - 1);
+    put_loose(RECORDS_MOST - 1, 'M', PART, VERSION_MOST - PART + 1);
+    expect_no_great("the last of 4,096 records beyond the store", LENGTH, LENGTH, 7, RECORDS_MOST - 1);
+    for (uint32_t i = 0; i < RECORDS_MOST; i++)
+        put_loose(i, 'M', PART, PART * i);
+    want(0, 'M', VERSION_MOST, 0);
+    expect_great("4,096 records that go on", 1);
+    for (uint32_t i = 0; i < RECORDS_MOST; i++)
+        put_loose(i, 'H', PART, PART * i);
+    want(0, 'H', VERSION_MOST, 0);
+    expect_great("4,096 held records that go on", 1);
+    for (uint32_t i = 0; i < RECORDS_MOST; i++)
+        put_loose(i, i % 2 ? 'H' : 'M', PART, PART * i);
+    memcpy(loose.wanted, loose.list, LENGTH);
+    expect_great("4,096 records that go on, every other one held", RECORDS_MOST);
+    for (uint32_t i = 0; i < RECORDS_MOST; i++)
+        put_loose(i, 'M', PART, 3 * i);
+    memcpy(loose.wanted, loose.list, LENGTH);
+    expect_great("4,096 records that do not go on", RECORDS_MOST);
+    for (uint32_t i = 0; i < RECORDS_MOST; i++)
+        put_loose(i, i % 2 ? 'M' : 'N', PART, i % 2 ? PART * i : 0);
+    memcpy(loose.wanted, loose.list, LENGTH);
+    expect_great("4,096 records in turns", RECORDS_MOST);
+    for (uint32_t i = 0; i < RECORDS_MOST; i++)
+        put_loose(i, i % 4 < 2 ? 'N' : 'M', PART, i % 4 < 2 ? 0 : PART * i);
+    for (uint32_t i = 0; i < RECORDS_MOST / 2; i++)
+        want(i, i % 2 ? 'M' : 'N', 2 * PART, i % 2 ? 2 * PART * i : 0);
+    expect_great("2,048 records in halves", RECORDS_MOST / 2);
+    for (uint32_t i = 1; i < RECORDS_MOST; i++)
+        put_loose(i, 'N', PART, 0);
+    put_loose(0, 'M', PART, 0);
+    want(0, 'M', PART, 0), want(1, 'N', VERSION_MOST - PART, 0);
+    expect_great("a match and 4,095 new records", 2);
+    free(loose.list), free(loose.wanted), free(loose.out), free(loose.store);
+}
+
 static void test_greatest_store(void)
 {
     uint8_t *huge = memory((size_t)STORE_MOST + 1), block[10] = { 0 };
@@ -1502,6 +1839,28 @@ static void test_greatest_store(void)
     fill_areas();
     expect("commit", "a store of 268,435,457 bytes, 2 before 9 and 12", refused(commit(10, 10, 256, list, 36, (const uint8_t *)VERSION_C, 29, huge,
         (size_t)STORE_MOST + 1, handed, handed_length, list_area, 0, block_area, 0, answer, sizeof answer), 2, 0));
+    /* The last bytes of the longest store; one byte more is said before 3, 9 and 4. */
+    const char *const ends[] = { "N1 N1 M5@268435451", "N1 N1 M5@268435452", "N1 N1 M1@268435456" };
+    const size_t over = (size_t)STORE_MOST + 1;
+    uint8_t wanted[AREA];
+    const size_t wanted_length = list_of("N2 M5@268435451", wanted);
+    for (size_t i = 0; i < 3; i++) {
+        const size_t n = list_of(ends[i], list);
+        expect("check_loose", ends[i], refused_loose(checked_loose(n, (const char *)huge, STORE_MOST), i == 0 ? 0 : 7, i == 0 ? 0 : 2));
+        const uint32_t number = tidied(n, (const char *)huge, STORE_MOST, n);
+        expect("tidy", ends[i], i == 0 ? wrote(number, wanted, wanted_length) : refused_loose(number, 7, 2));
+        expect("check_loose", "a store of 268,435,457 bytes", refused_loose(checked_loose(n, (const char *)huge, over), 2, 0));
+        expect("tidy", "a store of 268,435,457 bytes", refused_loose(tidied(n, (const char *)huge, over, n), 2, 0));
+    }
+    list_of("N0 N0", list);
+    expect("check_loose", "2 before 3", refused_loose(checked_loose(11, (const char *)huge, over), 2, 0));
+    expect("tidy", "2 before 3", refused_loose(tidied(11, (const char *)huge, over, AREA), 2, 0));
+    expect("check_loose", "2 before 4", refused_loose(checked_loose(24, (const char *)huge, over), 2, 0));
+    expect("tidy", "2 before 4", refused_loose(tidied(24, (const char *)huge, over, AREA), 2, 0));
+    expect("tidy", "2 before 9", refused_loose(tidied(24, (const char *)huge, over, 23), 2, 0));
+    expect("tidy", "2 before 3 and 9", refused_loose(tidied(13, (const char *)huge, over, 0), 2, 0));
+    expect("check_loose", "2 with no records", refused_loose(checked_loose(0, (const char *)huge, over), 2, 0));
+    expect("tidy", "2 with no records", refused_loose(tidied(0, (const char *)huge, over, 0), 2, 0));
     free(huge);
 }
 
@@ -1522,9 +1881,13 @@ int main(void)
     test_short_areas(committed, "commit of 111", FOR_LIST, FOR_BLOCK, "111");
     test_short_areas(pass, "pass", FOR_CHOICE, FOR_BLOCK, "");
     test_no_choice();
+    test_loose_lists();
+    test_bad_loose();
+    test_loose_lengths();
     test_stretches();
     test_greatest_lists();
     test_greatest_choices();
+    test_greatest_loose();
     test_greatest_store();
     printf("calls: %d cases of %d, %d wrong\n", cases, CASES, wrong);
     return cases != CASES || wrong != 0;

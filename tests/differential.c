@@ -9,11 +9,15 @@
  * gave, byte for byte; what is committed of any choice rebuilds the version and costs no less, with every match kept it is the list handed in with
  * its runs joined, and what is no choice is refused at the place where it was spoilt; two lists are said to give the same version exactly where
  * rebuild makes the same bytes of both, in either order, and a list gives the same version as itself and as what partition and pass wrote of it; a
- * match is refused, and a list said to give another version, exactly where one of its bytes differs, whichever it is; measure, rebuild, check and
- * compare do the same for a list without its marks, sound or not.
+ * match is refused, and a list said to give another version, exactly where one of its bytes differs, whichever it is; measure, rebuild, check,
+ * compare and check_loose do the same for a list without its marks, sound or not. Check_loose says what check says of a list, but for 5, 10 and 11,
+ * and tidy what check_loose says, but for 9; a list cut into loose pieces has the tidy form of the list; what tidy wrote has the origins of the loose
+ * list, leaves nothing to join, comes back from tidy, is sound for check with the loose list's stored block, and rebuilds what that list stands for;
+ * two loose lists have the same tidy form exactly where each byte has the same origin; what partition, commit and pass wrote comes back from tidy,
+ * and a commitment with every match kept writes what tidy writes.
  *
  * In order: the calls; chance; the areas; fields; reports; one comparison; the laws; choices to commit; one case; valid inputs; second lists;
- * damage; the cases; the table. Not here: NULL for an empty area, which controller.h does not allow.
+ * damage; loose lists; the cases; the table. Not here: NULL for an empty area, which controller.h does not allow.
  *
  *   differential [seed]
  *
@@ -22,8 +26,9 @@
  * was judged by commit and stood behind another fault, and choices were committed that cost more than the estimate's, and as much, a match differed
  * in one byte at each pair of places within a word, yes of two different lists and no were each given in two pairs of five or more, of neighbouring
  * matches two in five or more go on in the store and as many do not, about a third of the matches are held, and about a third of those that go on
- * have another mark, marks were flipped, a short list would have been cheaper with a held match stored, and calls were made without the marks,
- * accepted and refused; else 1.
+ * have another mark, marks were flipped, a short list would have been cheaper with a held match stored, calls were made without the marks,
+ * accepted and refused, of two loose lists two in five or more have the same origins and as many have not, loose lists had new records side by side
+ * and matches to join, and an area was too short for a loose list though its tidy form fits; else 1.
  */
 #include <inttypes.h>
 #include <signal.h>
@@ -37,9 +42,11 @@
 /* ---- The calls ---- */
 
 /* The calls; and, in the table, compare where the second list is at fault. */
-enum { MEASURE, REBUILD, CHECK, COMPARE, PARTITION, ESTIMATE, COMMIT, PASS, CALLS, SECOND_AT_FAULT = CALLS, ROWS };
+enum { MEASURE, REBUILD, CHECK, COMPARE, CHECK_LOOSE, TIDY, PARTITION, ESTIMATE, COMMIT, PASS, CALLS, SECOND_AT_FAULT = CALLS, ROWS };
 
-static const char *const call_name[ROWS] = { "measure", "rebuild", "check", "compare", "partition", "estimate", "commit", "pass", "  second" };
+static const char *const call_name[ROWS] = {
+    "measure", "rebuild", "check", "compare", "check_loose", "tidy", "partition", "estimate", "commit", "pass", "  second",
+};
 
 /* How many of each case. */
 enum { SMALL_CASES = 1000000, MIDDLE_CASES = 8000, FULL_CASES = 60, BRUTE_RECORDS = 10, STRETCH_CASES = 14 };
@@ -110,6 +117,8 @@ static const unsigned lent[CALLS] = {
     1u << WHOLE | 1u << ANSWER,
     1u << ANSWER,
     1u << ANSWER,
+    1u << ANSWER,
+    1u << LIST | 1u << ANSWER,
     1u << CHOICE | 1u << LIST | 1u << BLOCK | 1u << ANSWER,
     1u << CHOICE | 1u << ANSWER,
     1u << LIST | 1u << BLOCK | 1u << ANSWER,
@@ -118,6 +127,9 @@ static const unsigned lent[CALLS] = {
 
 /* The areas of the second partition and of the laws. */
 static uint8_t *law_choice, *law_list, *law_block, *law_whole, *law_second, *law_second_whole;
+
+/* Two loose lists, and the tidy form of one. */
+static uint8_t *loose_bytes, *other_bytes, *law_tidy;
 
 /* What partition wrote, for the estimate and the commitment. */
 static uint8_t *kept_choice, *kept_list, *kept_block;
@@ -146,6 +158,7 @@ static void make_room(void)
     law_block = room_for(VERSION_MOST), law_whole = room_for(VERSION_MOST), law_second_whole = room_for(VERSION_MOST);
     kept_choice = room_for(RECORDS_MOST), kept_list = room_for(list_most), kept_block = room_for(VERSION_MOST);
     handed_bytes = room_for(RECORDS_MOST), handed_copy = room_for(RECORDS_MOST);
+    loose_bytes = room_for(list_most), other_bytes = room_for(list_most), law_tidy = room_for(list_most);
     for (int a = 0; a < AREAS; a++)
         for (int side = 0; side < SIDES; side++)
             areas[a].bytes[side] = room_for(areas[a].most);
@@ -267,7 +280,7 @@ static void dump_answers(int call, const struct input *in)
         if (in->answer_len < ANSWER_BYTES)
             continue;
         const struct given g = read_answer(area(ANSWER, side));
-        printf("%-9s of %s: number %" PRIu32 " place %" PRIu32 " cost %" PRIu64 " entries %" PRIu32 " stored %" PRIu32
+        printf("%-11s of %s: number %" PRIu32 " place %" PRIu32 " cost %" PRIu64 " entries %" PRIu32 " stored %" PRIu32
                " looks %" PRIu32 " whole %" PRIu32 "\n", side == LIBRARY ? "library" : "reference", call_name[call],
                g.number, g.place, g.cost, g.entries, g.stored, g.looks, g.whole);
     }
@@ -351,6 +364,11 @@ static uint32_t run(int call, int side, const struct input *in)
     case COMPARE:
         return (library ? compare : ref_compare)(in->list, in->list_len, in->second, in->second_len, in->block, in->block_len,
                                                  in->second_block, in->second_block_len, in->store, in->store_len, answer, in->answer_len);
+    case CHECK_LOOSE:
+        return (library ? check_loose : ref_check_loose)(in->list, in->list_len, in->store, in->store_len, answer, in->answer_len);
+    case TIDY:
+        return (library ? tidy : ref_tidy)(in->list, in->list_len, in->store, in->store_len, area(LIST, side), in->list_area_len,
+                                           answer, in->answer_len);
     case PARTITION:
         return (library ? partition : ref_partition)(in->en, in->em, in->f, in->list, in->list_len, in->version, in->version_len,
                                                      in->store, in->store_len, area(CHOICE, side), in->choice_len,
@@ -635,6 +653,29 @@ static void law_of_held(int call, const struct input *in)
     }
 }
 
+/* Tidies a sound loose list into other bytes; how many records were written. */
+static uint32_t tidy_into(uint8_t *to, const uint8_t *list, size_t list_len, const struct input *in)
+{
+    uint8_t answer[ANSWER_BYTES];
+    if (tidy(list, list_len, in->store, in->store_len, to, list_len, answer, sizeof answer) != ACCEPTED)
+        differ(TIDY, "a sound list is not tidied", in);
+    return answer_entries(answer);
+}
+
+/* The written list is the tidy form of a list, which may be itself. */
+static void law_of_tidied(int call, const struct input *in, const uint8_t *list, size_t list_len, const char *what)
+{
+    const uint32_t entries = tidy_into(law_tidy, list, list_len, in);
+    if (entries != given[call].entries || memcmp(law_tidy, area(LIST, LIBRARY), RECORD_BYTES * entries) != 0)
+        differ(call, what, in);
+}
+
+/* The written list comes back from tidy as it is. */
+static void law_of_tidy(int call, const struct input *in)
+{
+    law_of_tidied(call, in, area(LIST, LIBRARY), RECORD_BYTES * given[call].entries, "the written list does not come back from tidy");
+}
+
 /* The written list comes back from a second partition as it is. */
 static void law_of_second_partition(const struct input *in)
 {
@@ -835,6 +876,21 @@ static void law_of_marks(int call, const struct input *in, const struct input *u
     unmarked_calls[call][number != ACCEPTED]++;
 }
 
+/* Check_loose is check without 5, the stored block and k: it finds the same fault, or none. Where check finds 5, it may find one behind that record,
+ * or at it. */
+static void law_of_check_loose(const struct input *in)
+{
+    const struct given *c = &given[CHECK], *l = &given[CHECK_LOOSE];
+    const int sound = c->number == ACCEPTED || c->number == BAD_BLOCK_LENGTH || c->number == NO_SUCH_RECORD;
+    if (l->number == ADJACENT_NEW_RECORDS || l->number == BAD_BLOCK_LENGTH || l->number == NO_SUCH_RECORD)
+        differ(CHECK_LOOSE, "a fault that a loose list cannot have", in);
+    if (!same_answers(l, &(struct given){ .number = l->number, .place = l->place }))
+        differ(CHECK_LOOSE, "gives more than number and place", in);
+    if (c->number == ADJACENT_NEW_RECORDS ? l->number != ACCEPTED && l->place < c->place
+                                          : l->number != (sound ? ACCEPTED : c->number) || l->place != (sound ? 0 : c->place))
+        differ(CHECK_LOOSE, "says otherwise than check", in);
+}
+
 /* A list gives the same version as itself without its marks. */
 static void law_of_compare_without_marks(const struct input *in, const struct input *unmarked)
 {
@@ -1004,8 +1060,11 @@ static void laws_of_commit(const struct input *in, struct handing handing)
     law_of_measure(COMMIT, in);
     law_of_rebuild(COMMIT, in);
     law_of_held(COMMIT, in);
-    if (handing.kind == ALL_KEPT)
+    law_of_tidy(COMMIT, in);
+    if (handing.kind == ALL_KEPT) {
         law_of_kept(in);
+        law_of_tidied(COMMIT, in, in->list, in->list_len, "with every match kept, not what tidy writes of the list handed in");
+    }
     if (given[ESTIMATE].number != ACCEPTED)
         return;
     if (handing.kind == LEAST)
@@ -1042,11 +1101,12 @@ static void try_input(const struct input *in)
     struct input unmarked;
     const int marks_taken = one_in(3) && without_marks(in, &unmarked);
     case_count++;
-    for (int call = MEASURE; call <= COMPARE; call++) {
+    for (int call = MEASURE; call <= CHECK_LOOSE; call++) {
         try_call(call, in);
         if (marks_taken)
             law_of_marks(call, in, &unmarked);
     }
+    law_of_check_loose(in);
     if (given[COMPARE].number == ACCEPTED) {
         law_of_compare(in);
         if (marks_taken)
@@ -1060,6 +1120,7 @@ static void try_input(const struct input *in)
         law_of_measure(PARTITION, in);
         law_of_rebuild(PARTITION, in);
         law_of_held(PARTITION, in);
+        law_of_tidy(PARTITION, in);
         law_of_second_partition(in);
         law_of_same_version(PARTITION, in);
         law_of_lone_matches(in);
@@ -1077,6 +1138,7 @@ static void try_input(const struct input *in)
         law_of_measure(PASS, in);
         law_of_rebuild(PASS, in);
         law_of_held(PASS, in);
+        law_of_tidy(PASS, in);
         law_of_same_version(PASS, in);
         law_of_pass(in);
     }
@@ -1568,7 +1630,252 @@ static void damage_some(struct input *in)
         damage_second(in);
 }
 
+/* ---- Loose lists: a list cut into pieces, whole or damaged ---- */
+
+/* Of the loose lists that tidy accepted: those with new records side by side, and those with matches that go on. Of two such lists: those with the
+ * same origins, and the others. Areas that were too short for a loose list and long enough for its tidy form. */
+static uint64_t side_by_side, unjoined, same_origins, other_origins, short_for_loose;
+
+/* Cuts the records of a list into pieces, as many as there is room for, into other bytes; the length of the loose list. The pieces of a match
+ * go on in the store and keep its mark. */
+static size_t cut_list(const uint8_t *list, size_t list_len, uint8_t *to)
+{
+    const size_t n = list_len / RECORD_BYTES;
+    size_t spare = n < RECORDS_MOST ? RECORDS_MOST - n : 0;
+    uint8_t *r = to;
+    for (size_t i = 0; i < n; i++, r += RECORD_BYTES) {
+        memcpy(r, list + RECORD_BYTES * i, RECORD_BYTES);
+        for (; spare > 0 && get32(r + 4) > 1 && one_in(2); spare--, r += RECORD_BYTES) {
+            const uint32_t size = get32(r + 4), part = one_in(3) ? 1 : 1 + below(size - 1);
+            memcpy(r + RECORD_BYTES, r, RECORD_BYTES);
+            put32(r + 4, part);
+            put32(r + RECORD_BYTES + 4, size - part);
+            if (r[0] == 1)
+                put32(r + RECORD_BYTES + 8, get32(r + 8) + part);
+        }
+    }
+    memcpy(r, list + RECORD_BYTES * n, list_len % RECORD_BYTES);
+    return (size_t)(r - to) + list_len % RECORD_BYTES;
+}
+
+/* The same input with its list cut, and a list area as long as that, or too short where the input's is. */
+static struct input cut_input(const struct input *in)
+{
+    struct input loose = *in;
+    loose.list = loose_bytes;
+    loose.list_len = cut_list(in->list, in->list_len, loose_bytes);
+    loose.list_area_len = loose.list_len + extra();
+    if (in->list_area_len < in->list_len && loose.list_len > 0)
+        loose.list_area_len = one_in(2) ? loose.list_len - 1 : below(loose.list_len);
+    return loose;
+}
+
+/* Breaks a record, the list's length, the store's, or that of the list area, so that the tidy form may still fit. */
+static void damage_loose(struct input *in)
+{
+    const uint32_t way = below(8);
+    if (way == 0)
+        damage_list_len(in);
+    else if (way == 1)
+        damage_store_len(in);
+    else if (way == 2 && in->list_len > 0)
+        in->list_area_len = one_in(2) ? in->list_len - 1 : below(in->list_len);
+    else if (way > 2 && records(in) > 0)
+        damages[DAMAGES_WITHOUT_RECORD + below(DAMAGES - DAMAGES_WITHOUT_RECORD)](in);
+}
+
+/* Tidy refuses as check_loose does, but for 9, which comes right after 3 and goes by the length of the loose list. */
+static void law_of_refusal(const struct input *in)
+{
+    const struct given *c = &given[CHECK_LOOSE], *t = &given[TIDY];
+    const int too_short = in->list_area_len < in->list_len && in->answer_len >= ANSWER_BYTES && c->number != TOO_LONG && c->number != BAD_LIST_LENGTH;
+    if (t->number != (too_short ? AREA_TOO_SHORT : c->number) || t->place != (too_short ? 0 : c->place))
+        differ(TIDY, "refused otherwise than by check_loose and the length of the list area", in);
+    short_for_loose += too_short && c->number == ACCEPTED && RECORD_BYTES * tidy_into(law_tidy, in->list, in->list_len, in) <= in->list_area_len;
+}
+
+/* Whether a record of a list goes with the one before it: both are new, or it goes on from that with the same mark. */
+static int goes_with(const uint8_t *r)
+{
+    const uint8_t *b = r - RECORD_BYTES;
+    if (r[0] == 0 || b[0] == 0)
+        return r[0] == b[0];
+    return r[1] == b[1] && (uint64_t)get32(b + 8) + get32(b + 4) == get32(r + 8);
+}
+
+/* The loose list has what tidy is for; the tidy form, of which nothing but its records is answered, leaves nothing to join. */
+static void law_of_neighbours(const struct input *in)
+{
+    const uint8_t *written = area(LIST, LIBRARY);
+    int new_pairs = 0, match_pairs = 0;
+    if (!same_answers(&given[TIDY], &(struct given){ .entries = given[TIDY].entries }))
+        differ(TIDY, "gives more than the number of records", in);
+    for (size_t i = 1; i < records(in); i++)
+        *(record(in->list, i)[0] == 0 ? &new_pairs : &match_pairs) += goes_with(record(in->list, i));
+    side_by_side += new_pairs > 0;
+    unjoined += match_pairs > 0;
+    for (size_t i = 1; i < given[TIDY].entries; i++)
+        if (goes_with(written + RECORD_BYTES * i))
+            differ(TIDY, "the tidy form has neighbours that should be one", in);
+}
+
+/* Stretch by stretch of the version: new in both lists, or drawn from the same address with the same mark; and both are equally long. */
+static void law_of_origins(const struct input *in)
+{
+    const uint8_t *a = in->list, *b = area(LIST, LIBRARY), *end_a = a + in->list_len, *end_b = b + RECORD_BYTES * given[TIDY].entries;
+    uint32_t into_a = 0, into_b = 0;
+    while (a < end_a && b < end_b) {
+        const uint32_t rest_a = get32(a + 4) - into_a, rest_b = get32(b + 4) - into_b, part = rest_a < rest_b ? rest_a : rest_b;
+        if (a[0] != b[0] || a[1] != b[1] || (a[0] == 1 && get32(a + 8) + into_a != get32(b + 8) + into_b))
+            differ(TIDY, "a byte has another origin in the tidy form", in);
+        into_a = part < rest_a ? into_a + part : 0;
+        into_b = part < rest_b ? into_b + part : 0;
+        a += into_a == 0 ? RECORD_BYTES : 0;
+        b += into_b == 0 ? RECORD_BYTES : 0;
+    }
+    if (a != end_a || b != end_b)
+        differ(TIDY, "the tidy form covers more or fewer bytes than the loose list", in);
+}
+
+/* What a loose list stands for (clauses 4.3.1 and 4.3.2), with this stored block; its length, and that of the block. */
+static size_t copy_loose(const struct input *in, const uint8_t *block, uint8_t *to, size_t *stored)
+{
+    size_t whole = 0;
+    *stored = 0;
+    for (size_t i = 0; i < records(in); i++) {
+        const uint8_t *r = record(in->list, i);
+        const size_t size = size_at(in, i);
+        memcpy(to + whole, r[0] == 1 ? in->store + get32(r + 8) : block + *stored, size);
+        *stored += r[0] == 1 ? 0 : size;
+        whole += size;
+    }
+    return whole;
+}
+
+/* With the loose list's stored block, check accepts the tidy form at each record, or of many at some, and at no other; and it rebuilds what the loose
+ * list stands for. */
+static void law_of_block(const struct input *in)
+{
+    uint8_t answer[ANSWER_BYTES];
+    const uint8_t *written = area(LIST, LIBRARY);
+    const uint32_t n = given[TIDY].entries, step = n < 64 ? 1 : n / 8;
+    size_t stored;
+    const size_t whole = copy_loose(in, block_bytes, law_whole, &stored);
+    const struct listed form = { written, RECORD_BYTES * n, block_bytes, stored };
+    for (uint32_t k = 0; k < n; k += step)
+        if (check(written, RECORD_BYTES * n, block_bytes, stored, in->store, in->store_len, k, answer, sizeof answer) != ACCEPTED)
+            differ(TIDY, "check refuses the tidy form with the stored block of the loose list", in);
+    if (check(written, RECORD_BYTES * n, block_bytes, stored, in->store, in->store_len, n, answer, sizeof answer) != NO_SUCH_RECORD)
+        differ(TIDY, "the tidy form has not the records that were answered", in);
+    if (rebuild_into(law_second_whole, form, in) != whole || memcmp(law_second_whole, law_whole, whole) != 0)
+        differ(TIDY, "the tidy form rebuilds something else than the loose list stands for", in);
+}
+
+/* Where each byte comes from: 0 where it is new, else twice its address, its mark, and 2. */
+static uint64_t origins[2][ROOM];
+
+/* The origins by a sound list; how many bytes it covers, or one more than there is room for. */
+static size_t write_origins(uint64_t *to, const uint8_t *list, size_t list_len)
+{
+    size_t whole = 0;
+    for (const uint8_t *r = list; r < list + list_len; r += RECORD_BYTES) {
+        const uint32_t size = get32(r + 4);
+        if (size > ROOM - whole)
+            return ROOM + 1;
+        const uint64_t first = 2 * (uint64_t)get32(r + 8) + r[1] + 2;
+        for (uint32_t i = 0; i < size; i++)
+            to[whole + i] = r[0] == 0 ? 0 : first + 2 * (uint64_t)i;
+        whole += size;
+    }
+    return whole;
+}
+
+/* One field of a list, or its last record, becomes another; it may then not be sound. */
+static void alter_list(struct input *in)
+{
+    uint8_t *r = some_record(in), *last = record(in->list, records(in) - 1);
+    switch (below(7)) {
+    case 0:
+        r[1] ^= r[0];
+        break;
+    case 1:
+        put32(r + 8, get32(r + 8) + (r[0] == 0 ? 0 : one_in(2) ? 1 : UINT32_MAX));
+        break;
+    case 2:
+        damage_to_new(in);
+        break;
+    case 3:
+        r[0] = 1;
+        put32(r + 8, below(in->store_len + 1));
+        break;
+    case 4:
+        damage_boundary(in);
+        break;
+    case 5:
+        put32(last + 4, get32(last + 4) + (one_in(2) ? 1 : UINT32_MAX));
+        break;
+    default:
+        damage_order(in);
+    }
+}
+
+/* A second loose list, which is the first cut anew, and in two cases of three altered before; where it is sound, its tidy form is that of the first
+ * exactly where each byte has the same origin. Only of short versions. */
+static void law_of_pairs(const struct input *in)
+{
+    uint8_t answer[ANSWER_BYTES];
+    struct input other = *in;
+    const size_t whole = write_origins(origins[0], in->list, in->list_len);
+    if (whole > ROOM || records(in) == 0)
+        return;
+    memcpy(law_list, in->list, in->list_len);
+    other.list = law_list;
+    if (!one_in(3))
+        alter_list(&other);
+    other.list = other_bytes;
+    other.list_len = cut_list(law_list, in->list_len, other_bytes);
+    if (check_loose(other.list, other.list_len, in->store, in->store_len, answer, sizeof answer) != ACCEPTED)
+        return;
+    const uint32_t entries = tidy_into(law_tidy, other.list, other.list_len, in);
+    const int same = write_origins(origins[1], other.list, other.list_len) == whole && memcmp(origins[0], origins[1], whole * sizeof **origins) == 0;
+    const int one_form = entries == given[TIDY].entries && memcmp(law_tidy, area(LIST, LIBRARY), RECORD_BYTES * entries) == 0;
+    if (same != one_form)
+        differ(TIDY, same ? "lists with the same origins have different tidy forms" : "lists with different origins have the same tidy form", in);
+    *(same ? &same_origins : &other_origins) += 1;
+}
+
+/* Cuts the list of an input that was tried before; the pieces of a sound list are sound, and have the tidy form of that list. */
+static void try_loose(const struct input *in)
+{
+    struct input loose = cut_input(in);
+    const int whole = !one_in(4), was_sound = given[CHECK_LOOSE].number == ACCEPTED;
+    if (!whole)
+        damage_loose(&loose);
+    try_call(CHECK_LOOSE, &loose);
+    if (whole && (given[CHECK_LOOSE].number == ACCEPTED) != was_sound)
+        differ(CHECK_LOOSE, "a list is sound and its pieces are not, or they are and it is not", &loose);
+    const int accepted = try_call(TIDY, &loose);
+    law_of_refusal(&loose);
+    if (!accepted)
+        return;
+    law_of_neighbours(&loose);
+    law_of_origins(&loose);
+    law_of_tidy(TIDY, &loose);
+    if (whole)
+        law_of_tidied(TIDY, &loose, in->list, in->list_len, "a list and its pieces have different tidy forms");
+    law_of_block(&loose);
+    law_of_pairs(&loose);
+}
+
 /* ---- The cases ---- */
+
+/* One input for all calls; in one case of four its list in pieces. */
+static void try_case(const struct input *in)
+{
+    try_input(in);
+    if (one_in(4))
+        try_loose(in);
+}
 
 /* Goes on from a list to all lists that begin with it and have up to so many records more, with sizes up to a match and a new
  * entry's cost and a disk byte. */
@@ -1576,7 +1883,7 @@ static void every_list(const struct input *in, size_t more, int last_new)
 {
     struct input next = *in;
     complete(&next);
-    try_input(&next);
+    try_case(&next);
     for (uint32_t size = 1; more > 0 && size <= (in->en + in->em) * in->f / 256 + 1; size++) {
         next = *in;
         append_match(&next, size, draw_address(in, size));
@@ -1616,7 +1923,7 @@ static void small_cases(void)
         const struct shape shape = { below(13), 1 + below(48), below(80), 1 + below(3), below(6) };
         struct input in = draw_input(&shape);
         damage_some(&in);
-        try_input(&in);
+        try_case(&in);
     }
 }
 
@@ -1643,7 +1950,7 @@ static void try_stretch(uint32_t size, uint32_t differs)
         in.version[fresh + differs] ^= (uint8_t)(1u << below(8));
     complete(&in);
     store_second(&in);
-    try_input(&in);
+    try_case(&in);
     for (int call = PARTITION; call <= PASS; call++)
         if ((call != COMMIT || number == MISMATCH) && (given[call].number != number || given[call].place != place))
             differ(call, "a match is judged otherwise than by its bytes", &in);
@@ -1670,7 +1977,7 @@ static void middle_cases(void)
         const struct shape shape = { 13 + below(400), 1 + below(80), 1 + below(300), 1 + below(4), below(6) };
         struct input in = draw_input(&shape);
         damage_some(&in);
-        try_input(&in);
+        try_case(&in);
     }
 }
 
@@ -1681,9 +1988,9 @@ static void full_cases(void)
     for (int i = 0; i < FULL_CASES; i++) {
         const struct shape shape = { RECORDS_MOST, 1 + below(200), 1 + below(2000), 1 + below(4), below(6) };
         struct input in = draw_input(&shape);
-        try_input(&in);
+        try_case(&in);
         damage_some(&in);
-        try_input(&in);
+        try_case(&in);
     }
 }
 
@@ -1693,15 +2000,15 @@ static void list_lengths(void)
     const struct shape shape = { RECORDS_MOST, 8, 100, 2, 3 };
     case_kind = "list length";
     struct input in = draw_input(&shape);
-    try_input(&in);
+    try_case(&in);
     in.list_len--;
-    try_input(&in);
+    try_case(&in);
     in.list_len += 2;
-    try_input(&in);
+    try_case(&in);
     in.list_len--;
     append_match(&in, 1, 0);
     complete(&in);
-    try_input(&in);
+    try_case(&in);
 }
 
 /* A match at the end of a short store and of the longest; a store too long. */
@@ -1718,7 +2025,7 @@ static void store_lengths(void)
         draw_price(&in);
         append_match(&in, edges[i].size, edges[i].address);
         complete(&in);
-        try_input(&in);
+        try_case(&in);
     }
 }
 
@@ -1786,7 +2093,7 @@ static void long_cases(void)
                 append_match(&in, size, draw_address(&in, size));
         }
         complete(&in);
-        try_input(&in);
+        try_case(&in);
     }
 }
 
@@ -1806,13 +2113,13 @@ static void longest_full_case(uint32_t en, uint32_t em, uint32_t f)
             append_match(&in, RECORDS_MOST, draw_address(&in, RECORDS_MOST));
     }
     complete(&in);
-    try_input(&in);
+    try_case(&in);
     in.version[in.version_len - 1] ^= 1;
-    try_input(&in);
+    try_case(&in);
     in.version[in.version_len - 1] ^= 1;
     in.version_len++;
     complete(&in);
-    try_input(&in);
+    try_case(&in);
 }
 
 /* ---- The table ---- */
@@ -1823,6 +2130,8 @@ static const char *const required[ROWS] = {
     "x.xxxxxx.xx..xxx.....",
     "x.xxxxxx..xx.xxx.....",
     "x.xxxxxx..x..xxx.....",
+    "x.xxx.xx.....xxx.....",
+    "x.xxx.xx.x...xxx.....",
     "xxxxxxxxxx..xxxx.....",
     "xxxxxxxxxx..xxxx.....",
     "xxxxxxxxxx..xxxxxxxxx",
@@ -1851,14 +2160,14 @@ static void print_choices(void)
 
 static void print_table(void)
 {
-    printf("%-9s  %8s |", "call", "compared");
+    printf("%-11s  %8s |", "call", "compared");
     for (int column = 0; column < SHORT_END; column++)
         printf(" %7d", column);
     for (int column = SHORT_END; column < COLUMNS; column++)
         printf(" %7s", special[column - SHORT_END].name);
     printf("\n");
     for (int row = 0; row < ROWS; row++) {
-        printf("%-9s  %8" PRIu64 " |", call_name[row], compared[row]);
+        printf("%-11s  %8" PRIu64 " |", call_name[row], compared[row]);
         for (int column = 0; column < COLUMNS; column++)
             printf(" %7" PRIu64, reached[row][column]);
         printf("\n");
@@ -1868,12 +2177,15 @@ static void print_table(void)
     printf("matches: %" PRIu64 ", of them held %" PRIu64 ", marks flipped %" PRIu64 "; neighbouring ones: %" PRIu64 " go on in the store, of them %"
            PRIu64 " with another mark, %" PRIu64 " do not\n", matches, held_matches, flipped, going_on, going_on_parted, not_going_on);
     printf("calls on lists without their marks");
-    for (int call = MEASURE; call <= COMPARE; call++)
+    for (int call = MEASURE; call <= CHECK_LOOSE; call++)
         printf("%s %s %" PRIu64 " accepted, %" PRIu64 " refused", call == MEASURE ? ":" : ";", call_name[call], unmarked_calls[call][0],
                unmarked_calls[call][1]);
     printf("\n");
     printf("compare: yes of two different lists %" PRIu64 ", of one and the same %" PRIu64 ", no %" PRIu64 "\n", yes_of_two_lists,
            yes_of_one_list, no);
+    printf("loose lists: with new records side by side %" PRIu64 ", with matches to join %" PRIu64 ", too long for an area that their tidy form"
+           " fits %" PRIu64 "; pairs with the same origins %" PRIu64 ", with others %" PRIu64 "\n", side_by_side, unjoined, short_for_loose,
+           same_origins, other_origins);
     print_choices();
     print_differed();
     printf("partitions accepted");
@@ -1926,6 +2238,7 @@ static int no_third(uint64_t part, uint64_t all, const char *what)
 static int uneven_counts(void)
 {
     return uneven(yes_of_two_lists, no, "yes of two different lists and no are not given about as often")
+        + uneven(same_origins, other_origins, "two loose lists have not the same origins about as often as they have")
         + uneven(going_on, not_going_on, "neighbouring matches do not go on in the store about as often as they do")
         + no_third(held_matches, matches, "not about a third of the matches are held")
         + no_third(going_on_parted, going_on, "not about a third of the matches that go on have another mark");
@@ -1935,7 +2248,7 @@ static int uneven_counts(void)
 static int missing_marks(void)
 {
     int count = 0;
-    for (int call = MEASURE; call <= COMPARE; call++)
+    for (int call = MEASURE; call <= CHECK_LOOSE; call++)
         for (int refused = 0; refused < 2; refused++)
             if (unmarked_calls[call][refused] == 0) {
                 printf("differential: %s was never %s without the marks\n", call_name[call], refused ? "refused" : "accepted");
@@ -1963,6 +2276,15 @@ static int missing_choices(void)
         count++;
     }
     return count;
+}
+
+/* Whether no loose list had anything to tidy, or no area was too short for one alone. */
+static int missing_loose(void)
+{
+    if (side_by_side > 0 && unjoined > 0 && short_for_loose > 0)
+        return 0;
+    printf("differential: no loose list had new records side by side, or none matches to join, or none was too long for an area alone\n");
+    return 1;
 }
 
 /* How many pairs of places within a word had no match that differs. */
@@ -2024,7 +2346,7 @@ int main(int argc, char **argv)
         puts("differential: the long store was written to");
         return 1;
     }
-    if (missing_prices() + missing_columns() + missing_places() + uneven_counts() + missing_marks() + missing_choices() > 0)
+    if (missing_prices() + missing_columns() + missing_places() + uneven_counts() + missing_marks() + missing_choices() + missing_loose() > 0)
         return 1;
     printf("differential: %" PRIu64 " calls compared, 0 differences\n", calls);
     return 0;

@@ -2,7 +2,8 @@
  *
  * Each call runs on a stack of its own that is painted beforehand, and the depth is where the paint ends. Two paints are used, since
  * a call may write a byte that looks like one. The few frames that lead to the call are counted with it, and `nothing` shows them
- * alone. The lists are full (4,096 records) and lead through the merges of the pass, a stored and a kept list, held matches, and refusals.
+ * alone. The lists are full (4,096 records) and lead through the merges of the pass, a stored and a kept list, held matches, and refusals; the loose
+ * ones have every record in halves.
  *
  * The calls, and the most stack that each may take, are those of controller.h, which tests/declared reads. One line for each call, in
  * bytes. Exit 0 where none takes more than the header says, else 1.
@@ -20,10 +21,10 @@ enum { KIB = 1024, STACK = 1024 * KIB, BYTES = 64 * RECORDS_MOST };
 
 /* ---- The inputs ---- */
 
-/* One list, with its price and the lengths that go with it. */
+/* One list, with its price and the lengths that go with it; and the first half of its records as a loose list, each record in halves. */
 static struct {
     uint32_t en, em, f;
-    uint8_t list[RECORDS_MOST * RECORD_BYTES];
+    uint8_t list[RECORDS_MOST * RECORD_BYTES], loose[RECORDS_MOST * RECORD_BYTES];
     size_t length, stored;
 } input;
 
@@ -72,8 +73,15 @@ static void set_input(const struct shape *shape)
         input.length += size;
         input.stored += is_new ? size : 0;
     }
+    for (unsigned i = 0; i < RECORDS_MOST; i++) {
+        const uint8_t *whole = input.list + RECORD_BYTES * (i / 2), first = whole[4] / 2;
+        uint8_t *half = input.loose + RECORD_BYTES * i;
+        memcpy(half, whole, RECORD_BYTES);
+        half[4] = i % 2 == 0 ? first : whole[4] - first;
+        half[8] = i % 2 == 0 || whole[0] == 0 ? 0 : first;
+    }
     if (shape->number == MALFORMED_RECORD)
-        input.list[RECORD_BYTES * (RECORDS_MOST - 1)] = 2;
+        input.list[RECORD_BYTES * (RECORDS_MOST - 1)] = input.loose[RECORD_BYTES * (RECORDS_MOST - 1)] = 2;
 }
 
 /* ---- The calls ---- */
@@ -128,6 +136,16 @@ static void call_pass(void)
 {
     number = pass(input.en, input.em, input.f, input.list, sizeof input.list, zeros, input.length, zeros, BYTES, choice, sizeof choice,
                   list_area, sizeof list_area, area, BYTES, answer, sizeof answer);
+}
+
+static void call_check_loose(void)
+{
+    number = check_loose(input.loose, sizeof input.loose, zeros, BYTES, answer, sizeof answer);
+}
+
+static void call_tidy(void)
+{
+    number = tidy(input.loose, sizeof input.loose, zeros, BYTES, list_area, sizeof list_area, answer, sizeof answer);
 }
 
 /* The calls by the header: whether the price goes into each, and the most that it may take. calls.def has a line CALL(name, priced, most)

@@ -3,11 +3,12 @@
  *   deposit OLD NEW [EN EM F]
  *
  * OLD is the store and NEW the version; EN, EM and F are the price, 12, 16 and 1024 where they are not given: a new entry has
- * no address, which spares 4 bytes, and F is in 256ths of a disk byte. It finds matches, measures the list found, hands it to pass for comparison,
- * and estimates what the least list would come to. Only then are areas taken for that list and its stored block: the estimate's choice is
- * committed, NEW rebuilt from what was written, and the two lists written are compared. Costs are printed in disk bytes. Nothing goes to disk.
+ * no address, which spares 4 bytes, and F is in 256ths of a disk byte. It finds matches, as a loose list, and tidies that. It measures the tidy list,
+ * hands it to pass for comparison, and estimates what the least list would come to. Only then are areas taken for that list and its stored block:
+ * the estimate's choice is committed, NEW rebuilt from what was written, and the two lists written are compared. Costs are printed in disk bytes.
+ * Nothing goes to disk.
  *
- * In order: errors; files; the list; the finder of matches; the calls; the report. Exit 0 where NEW came back, else 1 and one line.
+ * In order: errors; files; answers; the list; the finder of matches; the calls; the report. Exit 0 where NEW came back, else 1 and one line.
  */
 #include <errno.h>
 #include <inttypes.h>
@@ -66,11 +67,29 @@ static struct bytes read_file(const char *name, size_t most)
     return whole;
 }
 
+/* ---- Answers ---- */
+
+/* The answer area's fields that are used here. */
+struct answer {
+    uint64_t cost;
+    uint32_t entries, stored, whole;
+};
+
+/* Takes an answer area apart, where the call was accepted. */
+static struct answer answer_of(const char *call, const uint8_t *area)
+{
+    const uint32_t number = answer_number(area);
+    if (number != ACCEPTED)
+        fail("%s refused: %s, at %" PRIu32, call, number_text(number), answer_place(area));
+    return (struct answer){ answer_cost(area), answer_entries(area), answer_stored(area), answer_whole(area) };
+}
+
 /* ---- The list ---- */
 
+/* The records that it has now, and those that were added in all. */
 struct list {
     uint8_t bytes[RECORDS_MOST * RECORD_BYTES];
-    size_t records;
+    size_t records, added;
 };
 
 enum { NEW = 0, MATCH = 1 };
@@ -91,6 +110,24 @@ static void add(struct list *list, uint8_t kind, size_t size, size_t address)
     record[0] = kind;
     put_number(record + 4, size);
     put_number(record + 8, address);
+    list->added++;
+}
+
+/* Takes the last record back. */
+static void take_back(struct list *list)
+{
+    list->records--;
+    list->added--;
+}
+
+/* Puts the list into its tidy form, which has no more records. */
+static void tidy_list(struct list *list, struct bytes store)
+{
+    uint8_t area[ANSWER_BYTES];
+    const struct list loose = *list;
+    const size_t length = RECORD_BYTES * loose.records;
+    tidy(loose.bytes, length, store.at, store.length, list->bytes, length, area, sizeof area);
+    list->records = answer_of("tidy", area).entries;
 }
 
 /* ---- The finder of matches ---- */
@@ -129,22 +166,16 @@ static struct index index_blocks(struct bytes store)
     return index;
 }
 
-/* Where in the store the block begins, or the store's length where the index has it not. */
-static size_t look_up(const struct index *index, struct bytes store, const uint8_t *block)
+/* Where in the store the version's block at p begins, or the store's length where the index has it not, or the version ends before. */
+static size_t look_up(const struct index *index, struct bytes store, struct bytes version, size_t p)
 {
+    if (version.length - p < BLOCK)
+        return store.length;
+    const uint8_t *block = version.at + p;
     const uint32_t slot = index->slots[hash(block, index->bits)];
     if (slot == 0 || memcmp(store.at + BLOCK * (size_t)(slot - 1), block, BLOCK) != 0)
         return store.length;
     return BLOCK * (size_t)(slot - 1);
-}
-
-/* How many bytes before a and before b are the same, up to most. */
-static size_t same_before(const uint8_t *a, const uint8_t *b, size_t most)
-{
-    size_t n = 0;
-    while (n < most && *(a - n - 1) == *(b - n - 1))
-        n++;
-    return n;
 }
 
 /* How many bytes from a and from b on are the same, up to most. */
@@ -161,42 +192,55 @@ static size_t lesser(size_t a, size_t b)
     return a < b ? a : b;
 }
 
-/* Goes through the version: `done` bytes have their records, a block is looked up at p. A match may take three records, the new one
- * before it and the one after it included; where there is no room for them, the rest is one new record. */
+/* The records that a list must have left after tidying, for the finder to go on. */
+#define ROOM 64
+
+/* Whether there is room for a record and the last one; a full list is tidied. */
+static int has_room(struct list *list, struct bytes store)
+{
+    if (list->records + 2 <= RECORDS_MOST)
+        return 1;
+    tidy_list(list, store);
+    return list->records + ROOM <= RECORDS_MOST;
+}
+
+/* Whether the list ends with a new record of one byte. */
+static int ends_new(const struct list *list)
+{
+    const uint8_t *end = list->bytes + RECORD_BYTES * list->records;
+    return list->records > 0 && end[-RECORD_BYTES] == NEW && answer_word(end - RECORD_BYTES, 4) == 1;
+}
+
+/* Goes through the version and adds what it finds: a match where the index has the block at p, else a new byte. The new bytes before a match that are
+ * the same in the store are taken back, and it begins with them. Where the list has no room even when it is tidy, the rest is one new record. */
 static void find_matches(struct bytes store, struct bytes version, struct list *list)
 {
     const struct index index = index_blocks(store);
-    size_t done = 0, p = 0;
-    while (version.length - p >= BLOCK && list->records + 3 <= RECORDS_MOST) {
-        const size_t q = look_up(&index, store, version.at + p);
+    size_t p = 0;
+    while (p < version.length && has_room(list, store)) {
+        size_t q = look_up(&index, store, version, p);
         if (q == store.length) {
+            add(list, NEW, 1, 0);
             p++;
             continue;
         }
-        const size_t back = same_before(version.at + p, store.at + q, lesser(p - done, q));
-        const size_t ahead = same_after(version.at + p, store.at + q, lesser(version.length - p, store.length - q));
-        add(list, NEW, p - back - done, 0);
-        add(list, MATCH, back + ahead, q - back);
-        p += ahead;
-        done = p;
+        for (; q > 0 && ends_new(list) && version.at[p - 1] == store.at[q - 1]; p--, q--)
+            take_back(list);
+        const size_t size = same_after(version.at + p, store.at + q, lesser(version.length - p, store.length - q));
+        add(list, MATCH, size, q);
+        p += size;
     }
-    add(list, NEW, version.length - done, 0);
+    add(list, NEW, version.length - p, 0);
     free(index.slots);
 }
 
 /* ---- The calls ---- */
 
-/* What is deposited: the list found, version and store, and the price. */
+/* What is deposited: the list found, tidied; version and store; and the price. */
 struct deposit {
     struct bytes store, version;
     struct list found;
     uint32_t en, em, f;
-};
-
-/* The answer area's fields that are used here. */
-struct answer {
-    uint64_t cost;
-    uint32_t entries, stored, whole;
 };
 
 /* What partition would come to, and its choice: a byte for each record found. */
@@ -210,15 +254,6 @@ struct written {
     struct answer answer;
     struct bytes list, block;
 };
-
-/* Takes an answer area apart, where the call was accepted. */
-static struct answer answer_of(const char *call, const uint8_t *area)
-{
-    const uint32_t number = answer_number(area);
-    if (number != ACCEPTED)
-        fail("%s refused: %s, at %" PRIu32, call, number_text(number), answer_place(area));
-    return (struct answer){ answer_cost(area), answer_entries(area), answer_stored(area), answer_whole(area) };
-}
 
 static struct answer measure_found(const struct deposit *d)
 {
@@ -319,8 +354,9 @@ static void print_saved(const char *beside, uint64_t cost, uint64_t least)
 
 static void print_estimate(const struct deposit *d, struct answer found, struct answer passed, struct answer least)
 {
-    printf("store %zu bytes, version %zu bytes; EN %" PRIu32 ", EM %" PRIu32 ", F %" PRIu32 ": a new entry costs %.2f disk bytes, a match %.2f\n\n",
+    printf("store %zu bytes, version %zu bytes; EN %" PRIu32 ", EM %" PRIu32 ", F %" PRIu32 ": a new entry costs %.2f disk bytes, a match %.2f\n",
            d->store.length, d->version.length, d->en, d->em, d->f, in_disk_bytes((uint64_t)d->en * d->f), in_disk_bytes((uint64_t)d->em * d->f));
+    printf("found: %zu records, of which tidy made %zu\n\n", d->found.added, d->found.records);
     printf("%-22s %8s %13s %19s\n", "list", "entries", "stored bytes", "cost in disk bytes");
     print_row("every match kept", found);
     print_row("the pass", passed);
@@ -367,8 +403,9 @@ int main(int count, char **arguments)
     d->f = count == 6 ? number_of(arguments[5]) : 4 * DISK_BYTE;
     d->store = read_file(arguments[1], STORE_MOST);
     d->version = read_file(arguments[2], VERSION_MOST);
-    d->found.records = 0;
+    d->found.records = d->found.added = 0;
     find_matches(d->store, d->version, &d->found);
+    tidy_list(&d->found, d->store);
     make_deposit(d, arguments[2]);
     free(d->store.at), free(d->version.at), free(d);
     if (fflush(stdout) != 0)

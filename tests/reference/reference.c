@@ -1,8 +1,9 @@
 /* reference.c - the calls of docs/SPECIFICATION.md, section 4, a second time, in plain C.
  *
  * In order: limits; reading and writing of fields; the checks of the inputs; the cost; measure, rebuild and check; compare; runs; the
- * least choice; the pass; what a choice comes to; partition and pass; estimate and commit. It shares no line with the library and takes nothing
- * from its header. Where the library prices each record by the one before it, this looks for the runs first, and chooses for them.
+ * least choice; the pass; what a choice comes to; partition and pass; estimate and commit; loose lists. It shares no line with the library and takes
+ * nothing from its header. Where the library prices each record by the one before it, this looks for the runs first, and chooses for them. Where it
+ * tidies record by record, this first finds the records that stay.
  */
 #include "reference.h"
 
@@ -84,11 +85,12 @@ static struct answer refused(uint32_t number, size_t place)
 
 /* ---- The checks of the inputs ---- */
 
-/* What a call reads; measure has neither version nor store, rebuild, check and compare have no version. */
+/* What a call reads; measure has neither version nor store, and only partition, pass, estimate and commit have a version. In a loose list new
+ * records may stand side by side. */
 struct inputs {
     const uint8_t *list, *version, *store;
     size_t list_len, version_len, store_len;
-    int has_version, has_store;
+    int has_version, has_store, is_loose;
 };
 
 /* Number 1. */
@@ -119,13 +121,13 @@ static int malformed(const uint8_t *r)
     return r[0] == NEW && (r[1] != 0 || get32(r + 8) != 0);
 }
 
-/* Numbers 4 to 8 for record i, or 0; whole is its offset, which is at most limit. */
+/* Numbers 4 to 8 for record i, or 0; whole is its offset, which is at most limit. Of a loose list 5 is not asked. */
 static uint32_t bad_record(const struct inputs *in, size_t i, uint64_t whole, uint64_t limit)
 {
     const uint8_t *r = in->list + RECORD * i;
     if (malformed(r))
         return 4;
-    if (r[0] == NEW && i > 0 && r[-RECORD] == NEW)
+    if (!in->is_loose && r[0] == NEW && i > 0 && r[-RECORD] == NEW)
         return 5;
     const uint64_t size = get32(r + 4), address = get32(r + 8);
     if (size > limit - whole)
@@ -593,7 +595,7 @@ uint32_t ref_partition(uint32_t en, uint32_t em, uint32_t f,
 {
     if (answer_len < ANSWER_LEAST)
         return 9;
-    const struct job job = { { list, version, store, list_len, version_len, store_len, 1, 1 }, { en, em, f },
+    const struct job job = { { list, version, store, list_len, version_len, store_len, 1, 1, 0 }, { en, em, f },
                              choice, list_area, block_area, choice_len, list_area_len, block_area_len };
     struct answer a = judge(&job, CHOICE_AREA | LIST_AND_BLOCK_AREA);
     if (a.number == 0) {
@@ -614,7 +616,7 @@ uint32_t ref_pass(uint32_t en, uint32_t em, uint32_t f,
 {
     if (answer_len < ANSWER_LEAST)
         return 9;
-    const struct job job = { { list, version, store, list_len, version_len, store_len, 1, 1 }, { en, em, f },
+    const struct job job = { { list, version, store, list_len, version_len, store_len, 1, 1, 0 }, { en, em, f },
                              choice, list_area, block_area, choice_len, list_area_len, block_area_len };
     struct answer a = judge(&job, CHOICE_AREA | LIST_AND_BLOCK_AREA);
     if (a.number == 0) {
@@ -636,7 +638,7 @@ uint32_t ref_estimate(uint32_t en, uint32_t em, uint32_t f,
 {
     if (answer_len < ANSWER_LEAST)
         return 9;
-    const struct job job = { .in = { list, version, store, list_len, version_len, store_len, 1, 1 }, .price = { en, em, f },
+    const struct job job = { .in = { list, version, store, list_len, version_len, store_len, 1, 1, 0 }, .price = { en, em, f },
                              .choice = choice, .choice_len = choice_len };
     struct answer a = judge(&job, CHOICE_AREA);
     if (a.number == 0) {
@@ -677,12 +679,86 @@ uint32_t ref_commit(uint32_t en, uint32_t em, uint32_t f,
 {
     if (answer_len < ANSWER_LEAST)
         return 9;
-    const struct job job = { { list, version, store, list_len, version_len, store_len, 1, 1 }, { en, em, f },
+    const struct job job = { { list, version, store, list_len, version_len, store_len, 1, 1, 0 }, { en, em, f },
                              choice, list_area, block_area, choice_len, list_area_len, block_area_len };
     struct answer a = judge(&job, LIST_AND_BLOCK_AREA);
     if (a.number == 0)
         a = judge_choice(&job);
     if (a.number == 0)
         a = write_choice(&job);
+    return give(&a, answer);
+}
+
+/* ---- Loose lists ---- */
+
+/* Numbers 2 and 3, number 9 where an area is asked for, then record by record 4, 6 and 7; else number 0 and nothing else. */
+static struct answer judge_loose(const struct inputs *in, int needs_area, size_t area_len)
+{
+    const uint32_t fault = bad_length(in);
+    if (fault != 0)
+        return refused(fault, 0);
+    if (needs_area && area_len < in->list_len)
+        return refused(9, 0);
+    const struct answer a = walk(in);
+    return refused(a.number, a.place);
+}
+
+/* The records that stay: record s of the tidy form has the fields of record stays[s], but for the size. The sizes before it are begins[s] together;
+ * behind the last stand the number of records and the whole length. */
+static size_t stays[MOST_RECORDS + 1];
+static uint32_t begins[MOST_RECORDS + 1];
+
+/* Whether record i goes into the one before it: both are new, or it goes on from it. */
+static int goes_into(const uint8_t *list, size_t i)
+{
+    const int both_new = i > 0 && list[RECORD * (i - 1)] == NEW && list[RECORD * i] == NEW;
+    return both_new || goes_on(list, i);
+}
+
+/* Finds the records that stay; how many there are. */
+static size_t find_staying(const uint8_t *list, size_t n)
+{
+    size_t count = 0;
+    uint32_t whole = 0;
+    for (size_t i = 0; i < n; i++) {
+        if (!goes_into(list, i)) {
+            stays[count] = i;
+            begins[count] = whole;
+            count++;
+        }
+        whole += size_of(list, i);
+    }
+    stays[count] = n;
+    begins[count] = whole;
+    return count;
+}
+
+uint32_t ref_check_loose(const uint8_t *list, size_t list_len,
+                         const uint8_t *store, size_t store_len,
+                         uint8_t *answer, size_t answer_len)
+{
+    if (answer_len < ANSWER_LEAST)
+        return 9;
+    const struct inputs in = { .list = list, .list_len = list_len, .store = store, .store_len = store_len, .has_store = 1, .is_loose = 1 };
+    const struct answer a = judge_loose(&in, 0, 0);
+    return give(&a, answer);
+}
+
+uint32_t ref_tidy(const uint8_t *list, size_t list_len,
+                  const uint8_t *store, size_t store_len,
+                  uint8_t *list_area, size_t list_area_len,
+                  uint8_t *answer, size_t answer_len)
+{
+    if (answer_len < ANSWER_LEAST)
+        return 9;
+    const struct inputs in = { .list = list, .list_len = list_len, .store = store, .store_len = store_len, .has_store = 1, .is_loose = 1 };
+    struct answer a = judge_loose(&in, 1, list_area_len);
+    if (a.number == 0) {
+        a.entries = (uint32_t)find_staying(list, list_len / RECORD);
+        for (size_t s = 0; s < a.entries; s++) {
+            memcpy(list_area + RECORD * s, list + RECORD * stays[s], RECORD);
+            put32(list_area + RECORD * s + 4, begins[s + 1] - begins[s]);
+        }
+    }
     return give(&a, answer);
 }

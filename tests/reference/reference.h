@@ -75,4 +75,15 @@ uint32_t ref_pass(uint32_t en, uint32_t em, uint32_t f,
                   uint8_t *block_area, size_t block_area_len,
                   uint8_t *answer, size_t answer_len);
 
+/* Whether a loose list and the store are sound. */
+uint32_t ref_check_loose(const uint8_t *list, size_t list_len,
+                         const uint8_t *store, size_t store_len,
+                         uint8_t *answer, size_t answer_len);
+
+/* The tidy form of a loose list. */
+uint32_t ref_tidy(const uint8_t *list, size_t list_len,
+                  const uint8_t *store, size_t store_len,
+                  uint8_t *list_area, size_t list_area_len,
+                  uint8_t *answer, size_t answer_len);
+
 #endif

@@ -51,6 +51,7 @@ module _ (list v st : List ℕ) where
 
 -- what a list has that is fine beside version and store
 pub record Covered (list v st : List ℕ) : Type 0 where
+  pub walk-fine : walkRuling (checks scope.Version v st) list ≡ Fine
   pub whole-is : whole (recordsOf list) ≡ length v
   pub well-formed : WellFormed st (recordsOf list) v
 
@@ -60,6 +61,7 @@ covered-of-fine list v st h =
     let ends = eqb-true (whole (recordsOf list)) (length v) (true-of-need _ fault.Sizes (length (recordsOf list)) (parts .1)) in
     let each = each-of-fine (checks scope.Version v st) front (rowsOf list) (parts .0) in
     record {
+      walk-fine = parts .0;
       whole-is = ends;
       well-formed = record {
         sized = sized-of-four front (rowsOf list) (each .0);
@@ -91,6 +93,7 @@ pub record Fits (price : Price) (list v st : List ℕ) : Type 0 where
   pub lengths-fit : lengthsFit v st ≡ true
   pub version-most : length v ≤ versionMost
   pub store-most : length st ≤ storeMost
+  pub list-fits : listFits list ≡ true
   pub counted : Counted list
 
 pub fits-of-first : (price : Price) (list v st : List ℕ) → firstRuling price list v st ≡ Fine → Fits price list v st
@@ -101,13 +104,15 @@ fits-of-first price list v st h =
     let h₂ = fine-of-then two three (h₁ .1) in
     let prices = true-of-need (priceFits price) fault.Price 0 (h₁ .0) in
     let lengths = true-of-need (lengthsFit v st) fault.TooLong 0 (h₂ .0) in
+    let whole-list = true-of-need (listFits list) fault.ListLength 0 (h₂ .1) in
     record {
       price-fits = prices;
       rates-fit = rates-fit price prices;
       lengths-fit = lengths;
       version-most = lengths-most v st lengths .0;
       store-most = lengths-most v st lengths .1;
-      counted = counted-of-fits list (true-of-need (listFits list) fault.ListLength 0 (h₂ .1));
+      list-fits = whole-list;
+      counted = counted-of-fits list whole-list;
     }
 
 -- ---- all checks

@@ -11,6 +11,7 @@ ghost use Rattle.call_partition.specs.Partition.{partitionAnswer, partitionArea
 ghost use Rattle.call_pass.specs.Pass.{passAnswer, passAreas};
 ghost use Rattle.estimate.specs.Estimate.{estimateAnswer, estimateArea};
 ghost use Rattle.commit.specs.Commit.{commitAnswer, commitList, commitBlock};
+ghost use Rattle.loose.specs.Loose.{looseChecked, tidyAnswer, tidyArea};
 ghost use Rattle.answer.specs.Layout.{Answered, lent};
 use price::Price;
 
@@ -202,4 +203,27 @@ pub extern "C" fn compare<'a>(
         compare::compare(first, second, first_block, second_block, store),
         answer,
     )
+}
+
+// Check_loose.
+#[no_mangle]
+pub extern "C" fn check_loose(list: &[u8], store: &[u8], answer: &mut [u8]) -> u32
+    ensures answered { λ r. ⌜ Answered (looseChecked (now (list .entry)) (now (store .entry))) (now (answer .entry)) r (now (answer .exit)) ⌝ }
+{
+    if answer.len() < 32 {
+        return 9;
+    }
+    answer::give(loose::check_loose(list, store), answer)
+}
+
+// Tidy.
+#[no_mangle]
+pub extern "C" fn tidy(list: &[u8], store: &[u8], list_area: &mut [u8], answer: &mut [u8]) -> u32
+    ensures answered { λ r. ⌜ Answered (tidyAnswer (now (list .entry)) (now (store .entry)) (now («list_area» .entry))) (now (answer .entry)) r (now (answer .exit)) ⌝ }
+    ensures list_after { λ _. ⌜ now («list_area» .exit) ≡ lent (now (answer .entry)) (tidyArea (now (list .entry)) (now (store .entry)) (now («list_area» .entry))) (now («list_area» .entry)) ⌝ }
+{
+    if answer.len() < 32 {
+        return 9;
+    }
+    answer::give(loose::tidy(list, store, list_area), answer)
 }

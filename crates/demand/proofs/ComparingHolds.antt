@@ -58,7 +58,7 @@ module _ (list block st : List ℕ) (x : Rebuilding) (h : Rebuilds list block st
   written-version = rw (rw rebuild-fine at (h .made .area-after)) (front (figuresIn (x .answer) .whole) (versionOf list block st) (x .before) length-told)
 
 -- a refusal of check that is not 11 is one of its other checks
-stop-of-check : (q : Ruling) (t : Bool) (r : Refusal) → answer (q then need t NoSuchRecord 0) (lengthOnly 0) ≡ Refused r → (r .fault ≡ NoSuchRecord → ⊥) → q ≡ Stop r
+pub stop-of-check : (q : Ruling) (t : Bool) (r : Refusal) → answer (q then need t NoSuchRecord 0) (lengthOnly 0) ≡ Refused r → (r .fault ≡ NoSuchRecord → ⊥) → q ≡ Stop r
 stop-of-check Fine true r e h = absurd (let z : _≡_ {A = ℕ} 0 1 = cc in omega arith)
 stop-of-check Fine false r e h = absurd (h (let z : refuse NoSuchRecord 0 ≡ r = cc in ap (λ (x : Refusal). x .fault) (sym z)))
 stop-of-check (Stop x) t r e h = cc

@@ -9,3 +9,4 @@ pub mod ComparingHolds
 pub mod NoRunsHolds
 pub mod MarksHolds
 pub mod SplitHolds
+pub mod TidyingHolds

@@ -100,17 +100,17 @@ module _ {p : Price} {list v st : List ℕ} {x : Call} (k : Commits p list v st 
   both : (admitRuling p list v st (length list / 12) (length (x .before .list)) (length (x .before .block)) ≡ Fine) × (choiceRuling list choice ≡ Fine)
   both = fine-of-then (admitRuling p list v st (length list / 12) (length (x .before .list)) (length (x .before .block))) (choiceRuling list choice) fine
 
-  sound : Sound p list v st (length list / 12) (length (x .before .list)) (length (x .before .block))
+  pub sound : Sound p list v st (length list / 12) (length (x .before .list)) (length (x .before .block))
   sound = sound-of-fine p list v st (length list / 12) (length (x .before .list)) (length (x .before .block)) (both .0)
 
-  given : (c : List Bit) × Stands list choice c
+  pub given : (c : List Bit) × Stands list choice c
   given = choice-of-fine list choice (both .1)
 
   abbrev c : List Bit
   c = given .0
 
   -- it decides for the choice that it was given, as partition does for the least
-  decides : Decided Fine (ratesOf p) list v c 0 (x .before) (x .answer) (x .after)
+  pub decides : Decided Fine (ratesOf p) list v c 0 (x .before) (x .answer) (x .after)
   decides =
       let w = writes (k .made) fine (given .1) in
       let there : over (bitBytes c) choice ≡ choice = ap (over (bitBytes c)) (given .1 .bytes-are) ∙ ap (λ (l : List ℕ). bitBytes c ++ l) (drop-length (bitBytes c)) ∙ append-nil (bitBytes c) ∙ sym (given .1 .bytes-are) in

@@ -40,7 +40,7 @@ module _ {price : Price} {list v st : List ℕ} {c a b : ℕ} (s : Sound price l
   pub whole-written : whole (listOf (recordsOf list) d) ≡ length v
   whole-written = whole-agrees st (listOf (recordsOf list) d) v (well-formed-written .agrees)
 
-  count-written : length (listOf (recordsOf list) d) ≤ 4096
+  pub count-written : length (listOf (recordsOf list) d) ≤ 4096
   count-written = omega (arith, length-list (recordsOf list) d, s .fits .counted .count-most)
 
   readable-written : Readable (listOf (recordsOf list) d) (blockOf (listOf (recordsOf list) d) v) st

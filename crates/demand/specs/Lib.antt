@@ -8,3 +8,4 @@ pub mod Comparing
 pub mod NoRuns
 pub mod Marks
 pub mod Split
+pub mod Tidying

@@ -1,5 +1,5 @@
 // The answers of calls that are made one after the other: for the laws of section 8.1, whose statement is `specs/Demand`, by the crate `demonstrate`;
-// and for partition in two steps, `specs/Split`, by the crate `split`.
+// for partition in two steps, `specs/Split`, by the crate `split`; and for tidying twice, `specs/Tidying`, by the crate `tidy_twice`.
 use format::Answer;
 
 // What the four calls answered: partition, rebuild of what it wrote, partition of what it wrote, and pass.
@@ -14,4 +14,10 @@ pub struct Answers {
 pub struct TwoAnswers {
     pub estimated: Answer,
     pub committed: Answer,
+}
+
+// What tidy answered, and what it answered when it was handed the list that it had written.
+pub struct TwiceTidied {
+    pub once: Answer,
+    pub again: Answer,
 }

@@ -3,7 +3,7 @@
 use Prim.Native.Nat.{ℕ}
 use mathlib.Core.Bool.{Bool}
 use mathlib.Core.List.{List, [], _∷_, _++_, map}
-use lib.ListN.{replicate}
+use lib.ListN.{getD, replicate}
 use Rattle.format.specs.declared.Source.{Source}
 use Rattle.format.specs.declared.Record.{Record}
 use Rattle.format.specs.declared.Record.the-variants.{New, Match}
@@ -27,6 +27,10 @@ originsOf (Match s a) = from (drawnAt (a .held)) (a .address) s
 abbrev pub origins : List Record → List Origin
 origins [] = []
 origins (r ∷ l) = originsOf r ++ origins l
+
+-- the origin of byte i of the version (clause 3.13)
+abbrev pub originAt : List Record → ℕ → Origin
+originAt l i = getD (origins l) i fresh
 
 -- a record of one byte of this origin, and one for each of some origins
 abbrev pub single : Origin → Record

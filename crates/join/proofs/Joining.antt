@@ -1,5 +1,5 @@
 -- Laws of joining: a run joins as one record, and what a record joins is not seen by the one before it; how long a joined list is, what it covers,
--- that it is well formed where the list was, and its stored block; and that no two neighbours of the tidy form join.
+-- that it is well formed where the list was, its stored block and what it rebuilds; and that no two neighbours of the tidy form join.
 -- Assumes nothing.
 use Prim.Native.Nat.{ℕ, _+_, _≤_}
 use native.Mathlib.Omega.{arith}
@@ -14,8 +14,8 @@ use borrow.Author.Tests.{eqb-true}
 use Rattle.format.specs.declared.Source.{Source}
 use Rattle.format.specs.declared.Record.{Record}
 use Rattle.format.specs.declared.Record.the-variants.{New, Match}
-use Rattle.format.specs.Meaning.{sizeOf, whole, stored, blockOf}
-use Rattle.format.specs.WellFormed.{Sized, Apart, Agrees}
+use Rattle.format.specs.Meaning.{sizeOf, whole, stored, blockOf, rebuilt}
+use Rattle.format.specs.WellFormed.{Sized, Apart, Inside, Agrees}
 use Rattle.format.proofs.Rulings.{both-of-and}
 use Rattle.join.specs.Join.{goesOn, joins, grown, joinsFirst, join, tidy, Settled}
 
@@ -153,6 +153,18 @@ agrees-join st (Match s a) (Match t b ∷ l) v h = go (goesOn s a b) refl
         (omega (arith, length-drop s v, h .0, h .3 .0), omega (arith, on, h .3 .1), agrees-on st v s (a .address) t (b .address) on (h .2) (h .3 .2), rw drop-drop at (h .3 .3))
     go false e = h
 
+inside-join : (st : List ℕ) (r : Record) (l : List Record) → Inside st (r ∷ l) → Inside st (join r l)
+inside-join st (New s) [] h = h
+inside-join st (New s) (New t ∷ l) h = h
+inside-join st (New s) (Match t b ∷ l) h = h
+inside-join st (Match s a) [] h = h
+inside-join st (Match s a) (New t ∷ l) h = h
+inside-join st (Match s a) (Match t b ∷ l) h = go (goesOn s a b) refl
+  where
+    go : (x : Bool) → goesOn s a b ≡ x → Inside st (cond x (Match (s + t) a ∷ l) (Match s a ∷ Match t b ∷ l))
+    go true e = (omega (arith, goes-on s a b e .ends, h .1 .0), h .1 .1)
+    go false e = h
+
 pub block-join : (r : Record) (l : List Record) (v : List ℕ) → blockOf (join r l) v ≡ blockOf (r ∷ l) v
 block-join (New s) [] v = refl
 block-join (New s) (New t ∷ l) v = rw (take-add s t v, append-assoc, drop-drop t s v)
@@ -164,6 +176,19 @@ block-join (Match s a) (Match t b ∷ l) v = go (goesOn s a b)
     go : (x : Bool) → blockOf (cond x (Match (s + t) a ∷ l) (Match s a ∷ Match t b ∷ l)) v ≡ blockOf l (drop t (drop s v))
     go true = rw (drop-drop t s v)
     go false = refl
+
+rebuilt-join : (r : Record) (l : List Record) (b st : List ℕ) → rebuilt (join r l) b st ≡ rebuilt (r ∷ l) b st
+rebuilt-join (New s) [] b st = refl
+rebuilt-join (New s) (New t ∷ l) b st = rw (take-add s t b, append-assoc, drop-drop t s b)
+rebuilt-join (New s) (Match t c ∷ l) b st = refl
+rebuilt-join (Match s a) [] b st = refl
+rebuilt-join (Match s a) (New t ∷ l) b st = refl
+rebuilt-join (Match s a) (Match t c ∷ l) b st = go (goesOn s a c) refl
+  where
+    go : (x : Bool) → goesOn s a c ≡ x
+        → rebuilt (cond x (Match (s + t) a ∷ l) (Match s a ∷ Match t c ∷ l)) b st ≡ take s (drop (a .address) st) ++ (take t (drop (c .address) st) ++ rebuilt l b st)
+    go true e = rw (take-add s t (drop (a .address) st), append-assoc, drop-drop s (a .address) st, goes-on s a c e .ends)
+    go false e = refl
 
 pub stored-join : (r : Record) (l : List Record) → stored (join r l) ≡ stored (r ∷ l)
 stored-join (New s) [] = refl
@@ -233,3 +258,19 @@ stored-tidy (Match s a ∷ l) = stored-join (Match s a) (tidy l) ∙ stored-tidy
 pub apart-tidy : (l : List Record) → Apart (tidy l)
 apart-tidy [] = tt
 apart-tidy (r ∷ l) = apart-join r (tidy l) (apart-tidy l)
+
+-- its sizes and its matches are as well formed as the list's
+pub sized-tidy : (l : List Record) → Sized l → Sized (tidy l)
+sized-tidy [] h = tt
+sized-tidy (r ∷ l) h = sized-join r (tidy l) (h .0) (sized-tidy l (h .1))
+
+pub inside-tidy : (st : List ℕ) (l : List Record) → Inside st l → Inside st (tidy l)
+inside-tidy st [] h = tt
+inside-tidy st (New s ∷ l) h = inside-join st (New s) (tidy l) (inside-tidy st l h)
+inside-tidy st (Match s a ∷ l) h = inside-join st (Match s a) (tidy l) (h .0, inside-tidy st l (h .1))
+
+-- it rebuilds what the list does, from any stored block
+pub rebuilt-tidy : (l : List Record) (b st : List ℕ) → rebuilt (tidy l) b st ≡ rebuilt l b st
+rebuilt-tidy [] b st = refl
+rebuilt-tidy (New s ∷ l) b st = rebuilt-join (New s) (tidy l) b st ∙ ap (λ (x : List ℕ). take s b ++ x) (rebuilt-tidy l (drop s b) st)
+rebuilt-tidy (Match s a ∷ l) b st = rebuilt-join (Match s a) (tidy l) b st ∙ ap (λ (x : List ℕ). take s (drop (a .address) st) ++ x) (rebuilt-tidy l b st)

@@ -74,6 +74,12 @@ walk-store st l h k i w =
     (fine-of-each (checks scope.Store [] st) front (rowsFor l)
     (four-of-sized front l h, (five-of-apart front l (at-front l) k, (six-of-whole versionMost front l (omega arith), (seven-of-inside st front l i, tt)))))
 
+-- in check_loose and tidy
+pub walk-loose : (st : List ℕ) (l : List Record) → Sized l → Inside st l → whole l ≤ versionMost → walkRuling (checks scope.Loose [] st) (encode l) ≡ Fine
+walk-loose st l h i w =
+    rw (rows-encode l)
+    (fine-of-each (checks scope.Loose [] st) front (rowsFor l) (four-of-sized front l h, (six-of-whole versionMost front l (omega arith), (seven-of-inside st front l i, tt))))
+
 -- in partition and pass
 pub walk-encode : (v st : List ℕ) (l : List Record) → WellFormed st l v → walkRuling (checks scope.Version v st) (encode l) ≡ Fine
 walk-encode v st l w =

@@ -4,3 +4,4 @@ pub mod Telling
 pub mod Accepted
 pub mod Encoded
 pub mod Unmarked
+pub mod Loosened

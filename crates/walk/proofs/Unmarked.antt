@@ -3,7 +3,7 @@
 use Prim.Native.Nat.{ℕ}
 use mathlib.Core.Path.{_≡_, refl, _∙_, ap, ap₂}
 use mathlib.Core.Bool.{Bool}
-use mathlib.Core.List.{List, [], _∷_}
+use mathlib.Core.List.{List, [], _∷_, _++_}
 use Rattle.format.specs.declared.Fault.the-variants.{Malformed}
 use Rattle.format.specs.declared.Row.{Row}
 use Rattle.format.specs.declared.Ruling.{Ruling}
@@ -14,16 +14,17 @@ use Rattle.format.proofs.Unmarking.{bareRow, bareRows, rows-unmarked, formed-ba
 use Rattle.walk.specs.declared.Seen.{Seen}
 use Rattle.walk.specs.declared.Scope.{Scope}
 use Rattle.walk.specs.declared.Scope.the-variants as scope
-use Rattle.walk.specs.Checks.{limitOf, five, six, beyond, checks, judged, next, walkOn, front, walkRuling}
+use Rattle.walk.specs.Checks.{limitOf, neighbours, six, beyond, checks, judged, next, walkOn, front, walkRuling}
 
 module _ (x : Scope) (v st : List ℕ) where
   -- the checks after check 4 do not read byte 1
-  others-bare : (s : Seen) (r : Row) → judged (five ∷ six (limitOf x v) ∷ beyond x v st) s (bareRow r) ≡ judged (five ∷ six (limitOf x v) ∷ beyond x v st) s r
+  others-bare : (s : Seen) (r : Row) → judged (neighbours x ++ six (limitOf x v) ∷ beyond x v st) s (bareRow r) ≡ judged (neighbours x ++ six (limitOf x v) ∷ beyond x v st) s r
   others-bare s r = go x
     where
-      go : (y : Scope) → judged (five ∷ six (limitOf y v) ∷ beyond y v st) s (bareRow r) ≡ judged (five ∷ six (limitOf y v) ∷ beyond y v st) s r
+      go : (y : Scope) → judged (neighbours y ++ six (limitOf y v) ∷ beyond y v st) s (bareRow r) ≡ judged (neighbours y ++ six (limitOf y v) ∷ beyond y v st) s r
       go scope.Sizes = refl
       go scope.Store = refl
+      go scope.Loose = refl
       go scope.Version = refl
 
   judged-bare : (s : Seen) (r : Row) → judged (checks x v st) s (bareRow r) ≡ judged (checks x v st) s r

@@ -1,8 +1,8 @@
 -- Checks 4 to 8 (clauses 5.4 to 5.8), made record by record: which a call makes, and what the first that fails says.
 -- Assumes nothing.
 use Prim.Native.Nat.{ℕ, _+_}
-use mathlib.Core.Bool.{Bool, false, not, _&&_, _||_, cond}
-use mathlib.Core.List.{List, [], _∷_}
+use mathlib.Core.Bool.{Bool, true, false, not, _&&_, _||_, cond}
+use mathlib.Core.List.{List, [], _∷_, _++_}
 use lib.Dec.{leb}
 use lib.ListN.{length, take, drop}
 use Rattle.format.specs.declared.Fault.{Fault}
@@ -47,17 +47,30 @@ eight v st = record { fault = Mismatch; holds = λ s r. isNew r || sameBytes (ta
 abbrev pub limitOf : Scope → List ℕ → ℕ
 limitOf scope.Sizes v = versionMost
 limitOf scope.Store v = versionMost
+limitOf scope.Loose v = versionMost
 limitOf scope.Version v = length v
+
+-- new records may not stand side by side, but in a loose list (clause 1.14)
+abbrev pub tight : Scope → Bool
+tight scope.Sizes = true
+tight scope.Store = true
+tight scope.Loose = false
+tight scope.Version = true
+
+-- check 5, where it is made
+abbrev pub neighbours : Scope → List Check
+neighbours x = cond (tight x) (five ∷ []) []
 
 -- a call without a store makes neither 7 nor 8, one without a version no 8
 abbrev pub beyond : Scope → List ℕ → List ℕ → List Check
 beyond scope.Sizes v st = []
 beyond scope.Store v st = seven (length st) ∷ []
+beyond scope.Loose v st = seven (length st) ∷ []
 beyond scope.Version v st = seven (length st) ∷ eight v st ∷ []
 
 -- record by record 4, 5, 6, 7, 8 (clause 6.5)
 abbrev pub checks : Scope → List ℕ → List ℕ → List Check
-checks x v st = four ∷ five ∷ six (limitOf x v) ∷ beyond x v st
+checks x v st = four ∷ neighbours x ++ six (limitOf x v) ∷ beyond x v st
 
 -- one record: the first check that fails, at the record's place
 abbrev pub judged : List Check → Seen → Row → Ruling

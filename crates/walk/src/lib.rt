@@ -1,15 +1,16 @@
 // The walk over a list: checks 4 to 8, record by record, in their order. The first that fails is the refusal.
 //
-// One walk serves every call; its scope says which checks the call has the inputs for.
+// One walk serves every call; its scope says which checks the call has the inputs for, and that a loose list is not asked for check 5.
 ghost use mathlib.Core.Path.{_≡_};
 ghost use mathlib.Core.Bool.{false, _&&_};
+ghost use mathlib.Core.List.{[], _∷_};
 ghost use Prim.Native.Nat.{_+_, _≤_, _<_};
 ghost use lib.ListN.{length, take, drop};
 ghost use Rattle.format.specs.Limits.{versionMost, recordsMost};
 ghost use Rattle.format.specs.Refusal.{refuse};
 ghost use Rattle.format.specs.Record.{recordsOf, isNew};
 ghost use Rattle.words.specs.Same.{sameBytes};
-ghost use Rattle.walk.specs.Checks.{within, limitOf, beyond, checks, judged, walkRuling, next};
+ghost use Rattle.walk.specs.Checks.{within, seven, limitOf, tight, beyond, checks, judged, walkRuling, next};
 ghost use Rattle.walk.specs.Walked.{Lengths, walked, refusalOf};
 use format::Fault;
 use format::Refusal;
@@ -19,10 +20,11 @@ use format::Ruling;
 // What the sizes may come to where a call has no version.
 const LIMIT: u32 = format::VERSION_MOST as u32;
 
-// What a call has beside the list: nothing; the store; version and store.
+// What a call has beside the list: nothing; the store; the store, where the list is loose; version and store.
 pub enum Scope {
     Sizes,
     Store,
+    Loose,
     Version,
 }
 
@@ -62,6 +64,7 @@ fn limit_of(scope: Scope, version: &[u8]) -> u32
     match scope {
         Scope::Sizes => LIMIT,
         Scope::Store => LIMIT,
+        Scope::Loose => LIMIT,
         Scope::Version => version.len() as u32,
     }
 }
@@ -86,6 +89,17 @@ fn equal(row: Row, at: usize, version: &[u8], store: &[u8]) -> bool
     words::same(&version[at..end], &store[from..to])
 }
 
+// Check 7 by itself.
+fn judge_store(row: Row, seen: Seen, reach: usize) -> Ruling
+    requires { ⌜ isNew row ≡ false ⌝ }
+    ensures { λ r. ⌜ r ≡ judged (seven reach ∷ []) seen row ⌝ }
+{
+    if in_store(row, reach) {
+        return Ruling::Fine;
+    }
+    stop(Fault::OutsideStore, seen.place)
+}
+
 // Checks 7 and 8 of a match, as far as the scope goes.
 fn judge_match(row: Row, seen: Seen, scope: Scope, version: &[u8], store: &[u8]) -> Ruling
     requires { ⌜ (isNew row ≡ false) × (seen .offset + row .size ≤ limitOf scope (now version)) ⌝ }
@@ -93,12 +107,8 @@ fn judge_match(row: Row, seen: Seen, scope: Scope, version: &[u8], store: &[u8])
 {
     match scope {
         Scope::Sizes => Ruling::Fine,
-        Scope::Store => {
-            if in_store(row, store.len()) {
-                return Ruling::Fine;
-            }
-            stop(Fault::OutsideStore, seen.place)
-        }
+        Scope::Store => judge_store(row, seen, store.len()),
+        Scope::Loose => judge_store(row, seen, store.len()),
         Scope::Version => {
             if in_store(row, store.len()) {
                 let at = format::index(seen.offset);
@@ -112,12 +122,26 @@ fn judge_match(row: Row, seen: Seen, scope: Scope, version: &[u8], store: &[u8])
     }
 }
 
-// Check 5: whether a new record stands right after a new one.
-fn adjacent(row: Row, seen: Seen) -> bool
-    ensures { λ r. ⌜ r ≡ isNew row && seen .fresh ⌝ }
+// Whether new records may not stand side by side.
+fn is_tight(scope: Scope) -> bool
+    ensures { λ r. ⌜ r ≡ tight scope ⌝ }
+{
+    match scope {
+        Scope::Sizes => true,
+        Scope::Store => true,
+        Scope::Loose => false,
+        Scope::Version => true,
+    }
+}
+
+// Check 5: whether a new record stands right after a new one, where that is not allowed.
+fn adjacent(row: Row, seen: Seen, scope: Scope) -> bool
+    ensures { λ r. ⌜ r ≡ (isNew row && seen .fresh) && tight scope ⌝ }
 {
     if row.kind == 0 {
-        return seen.fresh;
+        if seen.fresh {
+            return is_tight(scope);
+        }
     }
     false
 }
@@ -130,7 +154,7 @@ fn judge(row: Row, seen: Seen, scope: Scope, limit: u32, version: &[u8], store: 
     if !checks::well_formed(row) {
         return stop(Fault::Malformed, seen.place);
     }
-    if adjacent(row, seen) {
+    if adjacent(row, seen, scope) {
         return stop(Fault::Adjacent, seen.place);
     }
     if limit - seen.offset < row.size {

@@ -5,7 +5,7 @@ use Prim.Native.Nat.{_+_, _≤_}
 use native.Mathlib.Omega.{arith}
 use borrow.Author.Tests.{not-true, not-false, eq-eqb, ne-eqb}
 use Rattle.format.specs.Record.{isNew, wellFormed}
-use Rattle.walk.specs.Checks.{limitOf, beyond, checks, judged}
+use Rattle.walk.specs.Checks.{limitOf, tight, beyond, checks, judged}
 use Rattle.walk.proofs.Judged.{judged-malformed, judged-adjacent, judged-sizes, judged-beyond, judged-new}
 use borrow.Author.Needs.{needs}
 use Rattle.walk.proofs.judge.Statement.{statement}
@@ -26,7 +26,7 @@ returns c =
 formed : (c : tie.Else1) → wellFormed (c .before .before .before .before .args .row) ≡ true
 formed c = sym (c .before .well-formed .ensures) ∙ not-false _ (c .if1 .left)
 
-parted : (c : tie.Else2) → isNew (c .before .before .before .before .before .before .args .row) && c .before .before .before .before .before .before .args .seen .fresh ≡ false
+parted : (c : tie.Else2) → let g = c .before .before .before .before .before .before .args in (isNew (g .row) && g .seen .fresh) && tight (g .scope) ≡ false
 parted c = sym (c .before .adjacent .ensures) ∙ c .if2 .left
 
 fits : (c : tie.Else3) → let g = c .before .before .before .before .before .before .before .before .before .args in g .seen .offset + g .row .size ≤ limitOf (g .scope) (g .version .now)

@@ -6,66 +6,62 @@ use borrow.Author.Tests.{leb-true}
 use Rattle.format.specs.declared.Fault.the-variants.{Mismatch}
 use Rattle.format.specs.Refusal.{need}
 use Rattle.walk.specs.Checks.{beyond, judged}
-use Rattle.walk.proofs.Judged.{judged-store, judged-version}
+use Rattle.walk.proofs.Judged.{judged-version}
 use borrow.Author.Needs.{needs}
 use Rattle.walk.proofs.judge_match.Statement.{statement}
 use Rattle.walk.proofs.judge_match.Tie as tie
 
+judge-store-requires : tie.Need-judge-store-requires
+judge-store-requires c κs = search needs
+
+judge-store-requires-2 : tie.Need-judge-store-requires-2
+judge-store-requires-2 c κs = search needs
+
 in-store-requires : tie.Need-in-store-requires
 in-store-requires c κs = search needs
-
-returns : tie.Need-returns
-returns c =
-    let g = c .before .before .before .before .before .before .args in
-    rw (c .before .before .enum-told2 .given .1) (sym (judged-store (g .seen) (g .row) (g .version .now) (g .store .now) (c .before .before .before .before .before .before .pre .0) true (sym (c .before .in-store .ensures) ∙ c .if1 .taken)))
-
-stop-requires : tie.Need-stop-requires
-stop-requires c κs = search needs
-
-in-store-requires-2 : tie.Need-in-store-requires-2
-in-store-requires-2 c κs = search needs
 
 index-requires : tie.Need-index-requires
 index-requires c κs = search needs
 
 equal-requires : tie.Need-equal-requires
 equal-requires c κs =
-    let limit = rw (c .before .before .before .enum-told3 .given .1) at (c .before .before .before .before .before .before .before .pre .1) in
-    (omega (arith, limit, c .index .ensures .0), leb-true _ _ (sym (c .before .before .in-store2 .ensures) ∙ c .before .if2 .taken))
+    let limit = rw (c .before .before .before .enum-told4 .given .1) at (c .before .before .before .before .before .before .before .pre .1) in
+    (omega (arith, limit, c .index .ensures .0), leb-true _ _ (sym (c .before .before .in-store .ensures) ∙ c .before .if1 .taken))
 
 -- the match is in the store, and e tells whether its bytes are the version's
 compared : (c : tie.After-equal) (e : Bool) → c .equal .result ≡ e → let g = c .before .before .before .before .before .before .before .before .args in
     judged (beyond (g .scope) (g .version .now) (g .store .now)) (g .seen) (g .row) ≡ need e Mismatch (g .seen .place)
 compared c e h =
     let g = c .before .before .before .before .before .before .before .before .args in
-    let inside = sym (c .before .before .before .in-store2 .ensures) ∙ c .before .before .if2 .taken in
+    let inside = sym (c .before .before .before .in-store .ensures) ∙ c .before .before .if1 .taken in
     let same = rw (c .before .index .ensures .0) at (sym (c .equal .ensures)) ∙ h in
-    rw (c .before .before .before .before .enum-told3 .given .1) (judged-version (g .seen) (g .row) (g .version .now) (g .store .now) (c .before .before .before .before .before .before .before .before .pre .0) true e inside same)
+    rw (c .before .before .before .before .enum-told4 .given .1) (judged-version (g .seen) (g .row) (g .version .now) (g .store .now) (c .before .before .before .before .before .before .before .before .pre .0) true e inside same)
+
+returns : tie.Need-returns
+returns c = sym (compared (c .before) true (c .if2 .taken))
+
+stop-requires : tie.Need-stop-requires
+stop-requires c κs = search needs
 
 returns-2 : tie.Need-returns-2
-returns-2 c = sym (compared (c .before) true (c .if3 .taken))
+returns-2 c = c .stop .ensures ∙ sym (compared (c .before .before) false (c .before .if2 .left))
 
 stop-requires-2 : tie.Need-stop-requires-2
 stop-requires-2 c κs = search needs
 
 returns-3 : tie.Need-returns-3
-returns-3 c = c .stop2 .ensures ∙ sym (compared (c .before .before) false (c .before .if3 .left))
-
-stop-requires-3 : tie.Need-stop-requires-3
-stop-requires-3 c κs = search needs
+returns-3 c = search needs
 
 returns-4 : tie.Need-returns-4
-returns-4 c = search needs
+returns-4 c = rw (c .before .enum-told2 .given .1) (c .judge-store .ensures)
 
 returns-5 : tie.Need-returns-5
-returns-5 c =
-    let g = c .before .before .before .before .before .before .before .args in
-    c .stop .ensures ∙ rw (c .before .before .before .enum-told2 .given .1) (sym (judged-store (g .seen) (g .row) (g .version .now) (g .store .now) (c .before .before .before .before .before .before .before .pre .0) false (sym (c .before .before .in-store .ensures) ∙ c .before .if1 .left)))
+returns-5 c = rw (c .before .enum-told3 .given .1) (c .judge-store2 .ensures)
 
 returns-6 : tie.Need-returns-6
 returns-6 c =
     let g = c .before .before .before .before .before .before .before .args in
-    c .stop3 .ensures ∙ rw (c .before .before .before .enum-told3 .given .1) (sym (judged-version (g .seen) (g .row) (g .version .now) (g .store .now) (c .before .before .before .before .before .before .before .pre .0) false _ (sym (c .before .before .in-store2 .ensures) ∙ c .before .if2 .left) (refl)))
+    c .stop2 .ensures ∙ rw (c .before .before .before .enum-told4 .given .1) (sym (judged-version (g .seen) (g .row) (g .version .now) (g .store .now) (c .before .before .before .before .before .before .before .pre .0) false _ (sym (c .before .before .in-store .ensures) ∙ c .before .if1 .left) refl))
 
 pub judge-match-spec : {M : Type 1} → statement M
 judge-match-spec =
@@ -73,17 +69,18 @@ judge-match-spec =
     (tie.spec
     (λ c. search needs)
     (λ c. search needs)
-    in-store-requires
-    returns
-    stop-requires
+    judge-store-requires
     (λ c. search needs)
-    in-store-requires-2
+    judge-store-requires-2
+    (λ c. search needs)
+    in-store-requires
     index-requires
     equal-requires
+    returns
+    stop-requires
     returns-2
     stop-requires-2
     returns-3
-    stop-requires-3
     returns-4
     returns-5
     returns-6)

@@ -1,4 +1,4 @@
--- `walk::limit_of` meets its contract, by the three scopes. Assumes nothing.
+-- `walk::limit_of` meets its contract, by the four scopes. Assumes nothing.
 use borrow.Author.Needs.{needs}
 use Rattle.walk.proofs.limit_of.Statement.{statement}
 use Rattle.walk.proofs.limit_of.Tie as tie
@@ -13,8 +13,21 @@ returns-2 : tie.Need-returns-2
 returns-2 c = search needs
 
 returns-3 : tie.Need-returns-3
-returns-3 c = rw (c .enum-told3 .given .1)
+returns-3 c = search needs
+
+returns-4 : tie.Need-returns-4
+returns-4 c = rw (c .enum-told4 .given .1)
 
 pub limit-of-spec : {M : Type 1} → statement M
 limit-of-spec =
-    tie.close (tie.spec (λ c. search needs) (λ c. search needs) (λ c. search needs) cast-result returns returns-2 returns-3)
+    tie.close
+    (tie.spec
+    (λ c. search needs)
+    (λ c. search needs)
+    (λ c. search needs)
+    (λ c. search needs)
+    cast-result
+    returns
+    returns-2
+    returns-3
+    returns-4)

@@ -1,0 +1,2 @@
+pub mod WorkedHolds
+pub mod Accepting
