@@ -1,2 +1,2 @@
-pub mod WorkedHolds
 pub mod Accepting
+pub mod WorkedHolds

@@ -1,7 +1,7 @@
 -- `loose::tidy` meets its contract: refused as the checks say, or the tidy form and the number of its records. Assumes nothing.
 use Prim.Native.Nat.{_/_}
 use native.Mathlib.Omega.{arith}
-use mathlib.Core.Path.{_≡_, refl, sym, _∙_}
+use mathlib.Core.Path.{_≡_, sym, _∙_}
 use lib.ListN.{length}
 use Rattle.format.specs.declared.Ruling.the-variants.{Fine}
 use Rattle.format.specs.Record.{recordsOf}

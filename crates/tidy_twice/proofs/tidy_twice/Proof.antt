@@ -2,7 +2,7 @@
 -- that both give the same follows from them. Assumes nothing.
 use Prim.Native.Nat.{_*_, _-_}
 use native.Mathlib.Omega.{arith}
-use mathlib.Core.Path.{_≡_, _∙_, ap}
+use mathlib.Core.Path.{_≡_}
 use Rattle.loose.specs.Loose.{Tidied}
 use Rattle.loose.proofs.Accepting.{tidy-made}
 use Rattle.demand.proofs.TidyingHolds.{once-refused, list-there, tidied-again}
