@@ -1,8 +1,9 @@
 /* controller.h - the calls of the deposit box for a controller in C.
  *
  * SCOPE. The calls take lists of records, each new or a match in the store, and say what a list
- * costs, whether it is sound, which version it rebuilds, whether two lists give the same version,
- * and which list costs least; and they turn the loose list of a finder into its tidy form.
+ * costs, whether it is sound, which version it rebuilds, whether two lists give the same version
+ * from the same places, and which list costs least; and they turn the loose list of a finder into
+ * its tidy form.
  * docs/SPECIFICATION.md has the rules, in numbered clauses; "clause" below is one of them.
  *
  * SURROUNDINGS. Link with libcontroller.a. Nothing is allocated and nothing is kept between calls.
@@ -64,8 +65,8 @@
  *
  * A HELD MATCH must go on being drawn from the store. Partition, estimate and pass always keep it;
  * commit refuses a choice that does not. It joins a neighbour only where that one is held too. What
- * is written carries the mark. To measure, rebuild, check, compare and check_loose the mark means
- * nothing.
+ * is written carries the mark. To compare it is part of where a byte comes from. To measure,
+ * rebuild, check and check_loose the mark means nothing.
  *
  * THE NUMBERS, by their cause; number n is clause 5.n:
  *
@@ -104,7 +105,7 @@ extern "C" {
 #define ANSWER_BYTES 32
 
 /* The version of this library: it grows when a call, an answer or a number changes. */
-#define CONTROLLER_VERSION 8
+#define CONTROLLER_VERSION 9
 
 /* EN and EM are 1 to E_MOST, F is 1 to F_MOST. */
 #define E_MOST 255
@@ -235,13 +236,18 @@ uint32_t check(const uint8_t *list, size_t list_len,
                uint32_t k,
                uint8_t *answer, size_t answer_len);
 
-/* compare - whether two lists give the same version (section 4.6).
+/* compare - whether two lists give the same version from the same places (section 4.6).
  *
- * Does: goes through both lists side by side and compares what they stand for, up to the first
- *   difference. Neither version is built. Yes exactly where rebuild would make the same bytes of
- *   both; else no.
+ * Does: goes through both lists side by side, up to the first difference. Neither version is built.
+ *   Yes exactly where rebuild would make the same bytes of both and each byte has the same origin
+ *   in both: it is new in both, or drawn from the same address with the same mark. Else no, also
+ *   where the same bytes come from elsewhere. Into how many records a run is cut does not matter:
+ *   a list and what tidy writes of it get yes, with one stored block. A list and what partition,
+ *   commit or pass writes of it, each with its stored block, get yes where every match is kept, no
+ *   where one is given up. To ask for the bytes alone, rebuild both.
  * Areas: first and second, two lists; first_block and second_block, the stored block of each;
- *   store, that of both. Areas that are only read may be the same.
+ *   store, that of both, of which no byte is read: only its length counts. Areas that are only read
+ *   may be the same.
  * Writes: answer (entries: 1 yes, 0 no).
  * Refuses, the first list wholly, then the second: 2 at 0; 3 at 0; record by record 4, 5, 6, 7 at
  *   the record; 10 at 0. The place counts within the list at fault. To know which list that is,

@@ -23,25 +23,27 @@ enum { EN = 12, EM = 16, F = 4 * 256 };
 
 /* ---- The inputs ---- */
 
-enum kinds { MATCHES, NEWS, TURNS, RUNS, SOME_HELD, HALVES };
+enum kinds { MATCHES, NEWS, TURNS, PIECES, RUNS, SOME_HELD, HALVES };
 
-/* A list: so many records over so many bytes, all matches, all new (which is one record) or in turns; 0 bytes: small records, by chance, in runs,
- * by chance with some matches held, or by chance and then, in the loose list, cut in halves. The second list gives the same version, or one whose
- * first byte differs. */
+/* What the second list has: the same origins and the same stored block, or those with whole matches cut in three, or a first byte that differs. */
+enum second { ALIKE, IN_THREE, DIFFERS };
+
+/* A list: so many records over so many bytes, all matches, all new (which is one record), in turns, or each new one before a match in three pieces;
+ * 0 bytes: small records, by chance, in runs, by chance with some matches held, or by chance and then, in the loose list, cut in halves. */
 struct shape {
     const char *name;
     uint32_t records, bytes;
     enum kinds kinds;
-    int differs;
+    enum second second;
 };
 
-/* One list with its version, store and stored block; a second list of that version, with its stored block; the list as check_loose and tidy take it;
- * the least choice, for commit; and the areas to write. */
+/* One list with its version, store and stored block; a second list with its stored block; the list as check_loose and tidy take it; the least choice,
+ * for commit; and the areas to write. */
 static struct {
     uint8_t list[RECORDS_MOST * RECORD_BYTES], list_area[RECORDS_MOST * RECORD_BYTES], choice[RECORDS_MOST], least[RECORDS_MOST];
     uint8_t second[RECORDS_MOST * RECORD_BYTES], loose[RECORDS_MOST * RECORD_BYTES];
     uint8_t *version, *store, *block, *second_block, *area;
-    size_t list_len, loose_len, version_len, block_len, second_block_len;
+    size_t list_len, second_len, loose_len, version_len, block_len;
 } in;
 
 #define SEED UINT64_C(0x9e3779b97f4a7c15)
@@ -137,26 +139,47 @@ static void set_loose(int in_halves)
     }
 }
 
-/* The second list, cut at other places: of a match behind a new record, the first half is stored with that. */
-static void set_second(void)
+/* Whether the record at an offset of the list, if there is one, is a match that goes on from the one before it, with the same mark. */
+static int goes_on(size_t i)
 {
-    memcpy(in.second, in.list, in.list_len);
-    in.second_block_len = 0;
-    for (size_t i = 0, offset = 0; i < in.list_len; i += RECORD_BYTES) {
-        uint8_t *record = in.second + i;
-        const uint32_t size = number_at(record + 4);
-        uint32_t stored = size;
-        if (record[0] == KIND_MATCH) {
-            stored = i > 0 && record[-RECORD_BYTES] == KIND_NEW ? size / 2 : 0;
-            put_number(record + 4, size - stored);
-            put_number(record + 8, number_at(record + 8) + stored);
+    if (i == 0 || i == in.list_len)
+        return 0;
+    const uint8_t *record = in.list + i, *before = record - RECORD_BYTES;
+    return record[0] == KIND_MATCH && before[0] == KIND_MATCH && record[1] == before[1]
+        && number_at(before + 8) + number_at(before + 4) == number_at(record + 8);
+}
+
+/* Adds a record to the second list, with the kind and the mark of one of the first. */
+static void add_piece(const uint8_t *of, uint32_t size, uint32_t address)
+{
+    uint8_t *record = in.second + in.second_len;
+    memcpy(record, of, RECORD_BYTES);
+    put_number(record + 4, size);
+    put_number(record + 8, address);
+    in.second_len += RECORD_BYTES;
+}
+
+/* The second list has the origins of the first, cut at other places: a run in the middle of each of its records but the last, a match that is no run
+ * in three where that is asked for. The second block is the first's, in other memory; its first byte may differ. */
+static void set_second(enum second second)
+{
+    in.second_len = 0;
+    for (size_t i = 0; i < in.list_len; i += RECORD_BYTES) {
+        const uint8_t *record = in.list + i;
+        const uint32_t size = number_at(record + 4), address = number_at(record + 8), third = size / 3;
+        const int is_behind = goes_on(i), is_before = goes_on(i + RECORD_BYTES);
+        if (second == IN_THREE && record[0] == KIND_MATCH && !is_behind && !is_before) {
+            add_piece(record, third, address);
+            add_piece(record, third, address + third);
+            add_piece(record, size - 2 * third, address + 2 * third);
+        } else {
+            const uint32_t taken = is_behind ? number_at(record - RECORD_BYTES + 4) / 2 : 0, left = is_before ? size / 2 : 0;
+            add_piece(record, taken + size - left, address - taken);
         }
-        if (record[0] == KIND_MATCH && stored > 0)
-            put_number(record + 4 - RECORD_BYTES, number_at(record + 4 - RECORD_BYTES) + stored);
-        memcpy(in.second_block + in.second_block_len, in.version + offset, stored);
-        in.second_block_len += stored;
-        offset += size;
     }
+    memcpy(in.second_block, in.block, in.block_len);
+    if (second == DIFFERS)
+        in.second_block[0] ^= 1;
 }
 
 /* The least choice, as the reference has it. */
@@ -186,13 +209,15 @@ static void set_input(const struct shape *shape)
             continue;
         }
         const uint32_t size = shape->bytes / shape->records;
+        if (shape->kinds == PIECES) {
+            add(i % 4 > 0, size, i * size);
+            continue;
+        }
         const int is_match = shape->kinds == MATCHES || (shape->kinds == TURNS && i % 2 == 1);
         add(is_match, size, (shape->records - 1 - i) * size);
     }
     set_loose(shape->kinds == HALVES);
-    set_second();
-    if (shape->differs)
-        in.second_block[0] ^= 1;
+    set_second(shape->second);
     set_least();
 }
 
@@ -243,8 +268,8 @@ static uint32_t make_call(int call, enum side side)
         return (ref ? ref_check : check)(in.list, in.list_len, in.block, in.block_len, in.store, VERSION_MOST, (uint32_t)last,
                                          to, ANSWER_BYTES);
     case COMPARE:
-        return (ref ? ref_compare : compare)(in.list, in.list_len, in.second, in.list_len, in.block, in.block_len, in.second_block,
-                                             in.second_block_len, in.store, VERSION_MOST, to, ANSWER_BYTES);
+        return (ref ? ref_compare : compare)(in.list, in.list_len, in.second, in.second_len, in.block, in.block_len, in.second_block,
+                                             in.block_len, in.store, VERSION_MOST, to, ANSWER_BYTES);
     case REBUILD:
         return (ref ? ref_rebuild : rebuild)(in.list, in.list_len, in.block, in.block_len, in.store, VERSION_MOST, in.area,
                                              VERSION_MOST, to, ANSWER_BYTES);
@@ -270,13 +295,14 @@ static uint32_t make_call(int call, enum side side)
     }
 }
 
-/* Both sides accept, and answer the same. */
-static void compare_sides(int call, const char *input)
+/* Both sides accept, and answer the same; of compare yes, unless the first byte differs. */
+static void compare_sides(int call, const struct shape *shape)
 {
     const uint32_t number = make_call(call, LIBRARY);
-    if (number == ACCEPTED && make_call(call, REFERENCE) == ACCEPTED && memcmp(answer[LIBRARY], answer[REFERENCE], ANSWER_BYTES) == 0)
+    if (number == ACCEPTED && make_call(call, REFERENCE) == ACCEPTED && memcmp(answer[LIBRARY], answer[REFERENCE], ANSWER_BYTES) == 0
+        && (call != COMPARE || answer_entries(answer[LIBRARY]) == (shape->second != DIFFERS)))
         return;
-    fprintf(stderr, "benchmark: %s, %s: library and reference do not answer the same\n", call_name[call], input);
+    fprintf(stderr, "benchmark: %s, %s: library and reference do not answer the same, or not as they should\n", call_name[call], shape->name);
     exit(1);
 }
 
@@ -329,7 +355,7 @@ static struct times time_call(int call, const struct shape *shape)
     double sample[SIDES][SAMPLES];
     struct times times;
     set_input(shape);
-    compare_sides(call, shape->name);
+    compare_sides(call, shape);
     const unsigned repeats[SIDES] = { repeats_for(call, LIBRARY), repeats_for(call, REFERENCE) };
     const double start = now();
     int n = 0;
@@ -347,18 +373,20 @@ static struct times time_call(int call, const struct shape *shape)
 
 /* ---- The tables ---- */
 
-static const struct shape few = { "16 MiB, 8 records", 8, VERSION_MOST, TURNS, 0 };
-static const struct shape unlike = { "16 MiB, first differs", 8, VERSION_MOST, TURNS, 1 };
-static const struct shape many = { "16 MiB, 4,096 records", RECORDS_MOST, VERSION_MOST, TURNS, 0 };
-static const struct shape one_match = { "16 MiB, one match", 1, VERSION_MOST, MATCHES, 0 };
-static const struct shape one_new = { "16 MiB, one new record", 1, VERSION_MOST, NEWS, 0 };
-static const struct shape small = { "4,096 small records", RECORDS_MOST, 0, TURNS, 0 };
-static const struct shape runs = { "4,096 matches in runs", RECORDS_MOST, 0, RUNS, 0 };
-static const struct shape some_held = { "4,096 small, some held", RECORDS_MOST, 0, SOME_HELD, 0 };
-static const struct shape halves = { "4,096 loose, in halves", RECORDS_MOST / 2, 0, HALVES, 0 };
-static const struct shape even = { "4,096 records of 48 bytes", RECORDS_MOST, 48 * RECORDS_MOST, TURNS, 0 };
-static const struct shape even_512 = { "512 records of 48 bytes", 512, 48 * 512, TURNS, 0 };
-static const struct shape few_1 = { "1 MiB, 8 records", 8, VERSION_MOST / 16, TURNS, 0 };
+static const struct shape few = { "16 MiB, 8 records", 8, VERSION_MOST, TURNS, IN_THREE };
+static const struct shape unlike = { "16 MiB, first differs", 8, VERSION_MOST, TURNS, DIFFERS };
+static const struct shape matches = { "16 MiB, 8 matches", 8, VERSION_MOST, MATCHES, IN_THREE };
+static const struct shape many = { "16 MiB, 4,096 records", RECORDS_MOST, VERSION_MOST, TURNS, ALIKE };
+static const struct shape pieces = { "16 MiB, 4,096 in pieces", RECORDS_MOST, VERSION_MOST, PIECES, ALIKE };
+static const struct shape one_match = { "16 MiB, one match", 1, VERSION_MOST, MATCHES, IN_THREE };
+static const struct shape one_new = { "16 MiB, one new record", 1, VERSION_MOST, NEWS, ALIKE };
+static const struct shape small = { "4,096 small records", RECORDS_MOST, 0, TURNS, ALIKE };
+static const struct shape runs = { "4,096 matches in runs", RECORDS_MOST, 0, RUNS, ALIKE };
+static const struct shape some_held = { "4,096 small, some held", RECORDS_MOST, 0, SOME_HELD, ALIKE };
+static const struct shape halves = { "4,096 loose, in halves", RECORDS_MOST / 2, 0, HALVES, ALIKE };
+static const struct shape even = { "4,096 records of 48 bytes", RECORDS_MOST, 48 * RECORDS_MOST, TURNS, ALIKE };
+static const struct shape even_512 = { "512 records of 48 bytes", 512, 48 * 512, TURNS, ALIKE };
+static const struct shape few_1 = { "1 MiB, 8 records", 8, VERSION_MOST / 16, TURNS, IN_THREE };
 
 static void print_times(int call, const struct shape *shape)
 {
@@ -380,8 +408,9 @@ static const struct {
     const struct shape *shape;
     int first, last;
 } timed[] = {
-    { &few, MEASURE, PASS }, { &unlike, COMPARE, COMPARE }, { &many, MEASURE, PASS }, { &one_match, REBUILD, PASS },
-    { &one_new, REBUILD, PASS }, { &small, MEASURE, PASS }, { &runs, PARTITION, PASS }, { &some_held, PARTITION, PASS },
+    { &few, MEASURE, PASS }, { &unlike, COMPARE, COMPARE }, { &matches, COMPARE, COMPARE }, { &many, MEASURE, PASS },
+    { &pieces, COMPARE, COMPARE }, { &one_match, REBUILD, PASS }, { &one_new, COMPARE, PASS }, { &small, MEASURE, PASS },
+    { &runs, COMPARE, COMPARE }, { &runs, PARTITION, PASS }, { &some_held, PARTITION, PASS },
     { &halves, CHECK_LOOSE, TIDY }, { &small, TIDY, TIDY }, { &runs, TIDY, TIDY },
 };
 
@@ -414,9 +443,11 @@ int main(int count, char **arguments)
     set_up();
     printf("Library and reference in turn, medians of 3 to %d samples; every buffer was written beforehand. EN %d, EM %d, F %d.\n"
            "Records in turns are new, match, new, match, of one size; small ones have 1 to 128 bytes, new or match by chance; of the matches in\n"
-           "runs, of 1 to 48 bytes, half go on in the store; where some are held, it is one match of three. The second list of compare gives the\n"
-           "same version, cut at other places: of a match behind a new record, half is stored with that; once its first byte differs. Commit is\n"
-           "handed the least choice. The loose list in halves is 2,048 records of 2 to 128 bytes, new or match by chance, each cut in two.\n\n",
+           "runs, of 1 to 48 bytes, half go on in the store; where some are held, it is one match of three. The second list of compare draws each\n"
+           "byte from the same place and has the same stored block, in other memory. Of 8 records its matches are cut in three, and runs are cut\n"
+           "at other places; in pieces, each new record stands before a run of three. Other records are the same in both, and once the first byte\n"
+           "differs. Commit is handed the least choice. The loose list in halves is 2,048 records of 2 to 128 bytes, new or match by chance, each\n"
+           "cut in two.\n\n",
            SAMPLES, EN, EM, F);
     print_all_times();
     print_all_growth();

@@ -5,16 +5,20 @@
  * case lends of it and is filled beforehand, and after the call it is looked at to its last byte: what the call should not write must still hold
  * the filling. A choice is written as its bytes, "101", X for 255. What partition gives, estimate and then commit must give too; the list that
  * partition wrote is handed in again, and must come back, and so must the list that tidy wrote. For each size up to 136 one case each of partition,
- * estimate, commit, pass and compare lets a match differ at every byte, at every pair of places within a word.
+ * estimate, commit and pass lets a match differ at every byte, and one of compare a stored stretch, at every pair of places within a word. Compare
+ * is lent a store that cannot be read.
  * Exit 0 and one line, with the number of cases, where all is as it should be, else 1 and a line for each case that is not.
  */
+#define _DEFAULT_SOURCE
+#include <signal.h>
 #include <stdio.h>
 #include <stdlib.h>
 #include <string.h>
+#include <sys/mman.h>
 
 #include "controller.h"
 
-#define CASES 2312
+#define CASES 2774
 #define FILL 0xA5
 #define AREA 256
 
@@ -388,54 +392,144 @@ static void test_rebuild(void)
 
 static const char twice[] = "ABCDEABCDEXY";
 
+/* The store of the worked examples (clauses 10.8 and 10.10). */
+static const char ababc[] = "ABABC";
+
 static uint8_t second[AREA];
+
+static uint32_t compared_over(const void *store, size_t length, size_t n, const char *block, size_t m, const char *second_block)
+{
+    fill_areas();
+    return compare(list, n, second, m, (const uint8_t *)block, strlen(block), (const uint8_t *)second_block, strlen(second_block), store, length,
+        answer, sizeof answer);
+}
 
 static uint32_t compared(size_t n, const char *block, size_t m, const char *second_block)
 {
-    fill_areas();
-    return compare(list, n, second, m, (const uint8_t *)block, strlen(block), (const uint8_t *)second_block, strlen(second_block),
-        (const uint8_t *)twice, 12, answer, sizeof answer);
+    return compared_over(twice, 12, n, block, m, second_block);
 }
 
 enum { NO, YES };
 
-static const struct {
+struct pair {
     const char *what, *first, *block, *second, *second_block;
     uint32_t same;
-} pairs[] = {
+};
+
+/* The accepted ones of clause 10.8, over its store. */
+static const struct pair worked_pairs[] = {
+    { "no records", "", "", "", "", YES },
+    { "a match cut in two", "N2 M3@2", "AB", "N2 M1@2 M2@3", "AB", YES },
+    { "AB from different places", "M2@0", "", "M2@2", "", NO },
+    { "ABABC, two bytes new in one and drawn in the other", "N2 M3@2", "AB", "M3@0 N2", "BC", NO },
+    { "a held match, and one that is not", "H2@0 M3@2", "", "M2@0 M3@2", "", NO },
+    { "the last stored byte", "N2", "AB", "N2", "AC", NO },
+    { "a prefix of the other", "M4@0", "", "M5@0", "", NO },
+};
+
+/* Each pair is tried in both orders. */
+static const struct pair pairs[] = {
+    /* Each byte from the same place: into how many records a run is cut does not matter. */
     { "two empty lists", "", "", "", "", YES },
     { "a list and itself", "N2 M3@2", "ab", "N2 M3@2", "ab", YES },
-    { "the same bytes, cut differently", "N2 M3@2", "AB", "M3@0 N2", "DE", YES },
-    { "matches cut in two", "M5@0 M2@10", "", "M2@0 M3@2 M1@10 M1@11", "", YES },
-    { "the same bytes from another place of the store", "M5@0", "", "M5@5", "", YES },
-    { "in part from another place of the store", "M2@0 M3@7", "", "M3@5 M2@3", "", YES },
-    { "stored in one and drawn in the other", "N5", "ABCDE", "M5@0", "", YES },
-    { "stored in several records and drawn", "N2 M1@2 N2", "ABDE", "M5@0", "", YES },
-    { "drawn and stored in several records", "M5@0", "", "N1 M1@6 N1 M1@3 N1", "ACE", YES },
-    { "more stored bytes in the second", "N2 M3@2", "AB", "N5", "ABCDE", YES },
-    { "a stored block that would fit the first too", "N2 M3@0", "XY", "M2@10 N2 M1@2", "AB", YES },
     { "a held match in both", "N2 H3@2", "ab", "N2 H3@2", "ab", YES },
-    { "a list and itself without its mark", "N2 H3@2", "ab", "N2 M3@2", "ab", YES },
-    { "a list without its mark and itself", "N2 M3@2", "ab", "N2 H3@2", "ab", YES },
-    { "held, and cut in two of which one is held", "H5@0", "", "M2@0 H3@2", "", YES },
-    { "held, and from another place of the store", "H5@0", "", "M5@5", "", YES },
-    { "held in one and stored in the other", "H5@0", "", "N5", "ABCDE", YES },
-    { "the last byte, held and stored", "H5@0", "", "N5", "ABCDX", NO },
-    { "the first byte, held in both", "H2@0", "", "H2@10", "", NO },
-    { "held in both, the first a prefix of the second", "H4@0", "", "H5@0", "", NO },
+    { "one new byte", "N1", "a", "N1", "a", YES },
+    { "matches cut in two", "M5@0 M2@10", "", "M2@0 M3@2 M1@10 M1@11", "", YES },
+    { "a match, and its bytes one by one", "M5@0", "", "M1@0 M1@1 M1@2 M1@3 M1@4", "", YES },
+    { "cut after the first byte, and before the last", "M1@0 M4@1", "", "M4@0 M1@4", "", YES },
+    { "cut in three, by cuts that cross", "M2@0 M3@2 M2@5", "", "M1@0 M5@1 M1@6", "", YES },
+    { "all the store, in three and in four", "M4@0 M4@4 M4@8", "", "M3@0 M3@3 M3@6 M3@9", "", YES },
+    { "all the store, in five and in three", "M1@0 M2@1 M3@3 M4@6 M2@10", "", "M5@0 M5@5 M2@10", "", YES },
+    { "a run of four, and of two that cross it", "M1@0 M1@1 M1@2 M7@3", "", "M5@0 M5@5", "", YES },
+    { "runs between new records", "N1 M4@0 N2 M3@5", "abc", "N1 M2@0 M2@2 N2 M1@5 M2@6", "abc", YES },
+    { "runs around new records, both cut", "M2@0 M3@2 N1 M2@5 M5@7", "a", "M3@0 M2@3 N1 M5@5 M2@10", "a", YES },
+    { "a new record between matches that go on", "M2@0 N1 M3@2", "a", "M1@0 M1@1 N1 M1@2 M2@3", "a", YES },
+    { "matches that do not go on, each cut", "M2@0 M2@5 M2@2", "", "M1@0 M1@1 M1@5 M1@6 M2@2", "", YES },
+    { "the same match twice, cut", "M3@0 M3@0", "", "M1@0 M2@1 M2@0 M1@2", "", YES },
+    { "a match before the one before it, cut", "M2@2 M2@0", "", "M1@2 M1@3 M2@0", "", YES },
+    { "a held match cut in two", "H5@0", "", "H2@0 H3@2", "", YES },
+    { "held, then not, each cut", "H4@0 M4@4", "", "H1@0 H3@1 M2@4 M2@6", "", YES },
+    { "not held, then held, each cut", "M2@0 H3@2", "", "M1@0 M1@1 H1@2 H2@3", "", YES },
+    { "a held byte in the middle", "M2@0 H1@2 M2@3", "", "M1@0 M1@1 H1@2 M1@3 M1@4", "", YES },
+    /* The same bytes, ABCDE or what begins so, from other addresses. */
+    { "from another place of the store", "M5@0", "", "M5@5", "", NO },
+    { "held, and from another place of the store", "H5@0", "", "H5@5", "", NO },
+    { "the first byte from another place", "M5@0", "", "M1@5 M4@1", "", NO },
+    { "a byte in the middle from another place", "M5@0", "", "M2@0 M1@7 M2@3", "", NO },
+    { "the last byte from another place", "M4@0 M1@4", "", "M4@0 M1@9", "", NO },
+    { "the last bytes from another place, behind a cut", "M5@0", "", "M2@0 M3@7", "", NO },
+    { "in part from another place, cut differently", "M2@0 M3@7", "", "M3@5 M2@3", "", NO },
+    { "ABCDE twice, once gone on and once begun again", "M5@0 M5@5", "", "M5@0 M5@0", "", NO },
+    { "ABCDE twice, from the two places in turn", "M5@0 M5@5", "", "M5@5 M5@0", "", NO },
+    { "another place behind a new record", "N1 M5@0", "a", "N1 M5@5", "a", NO },
+    { "another place behind a run that is cut differently", "M2@0 M3@2 N1 M2@0", "a", "M4@0 M1@4 N1 M2@5", "a", NO },
+    { "another place in the third of four records", "M5@0 N1 M2@0 M2@2", "a", "M5@0 N1 M2@5 M2@2", "a", NO },
+    /* The same bytes from the same addresses, with another mark. A match that goes on with another mark is another origin. */
+    { "the only mark", "N2 H3@2", "AB", "N2 M3@2", "AB", NO },
+    { "the mark of all", "H5@0", "", "M5@0", "", NO },
+    { "the mark of the first byte", "H5@0", "", "M1@0 H4@1", "", NO },
+    { "the mark of the last byte", "H5@0", "", "H4@0 M1@4", "", NO },
+    { "the mark of a byte in the middle", "M5@0", "", "M2@0 H1@2 M2@3", "", NO },
+    { "held, and cut in two of which the second is held", "H5@0", "", "M2@0 H3@2", "", NO },
+    { "held, and cut in two of which the first is held", "H5@0", "", "H2@0 M3@2", "", NO },
+    { "marks that change places", "M2@0 H3@2", "", "H2@0 M3@2", "", NO },
+    { "a mark that begins a byte later", "M2@0 H3@2", "", "M3@0 H2@3", "", NO },
+    { "a mark that ends a byte later", "H2@0 M3@2", "", "H3@0 M2@3", "", NO },
+    { "cut differently, and one piece is held", "M2@0 M3@2", "", "M3@0 H2@3", "", NO },
+    { "held runs cut differently, a byte more held", "H5@0 M5@5", "", "H3@0 H2@3 H1@5 M4@6", "", NO },
+    { "the mark of the last of three records", "M5@0 N1 H2@10", "a", "M5@0 N1 M2@10", "a", NO },
+    { "the mark and the place", "H5@0", "", "M5@5", "", NO },
+    /* The same bytes, ABCDE unless others are named, of which some are new in one list and drawn in the other. */
+    { "stored in one and drawn in the other", "N5", "ABCDE", "M5@0", "", NO },
+    { "stored in one and held in the other", "H5@0", "", "N5", "ABCDE", NO },
+    { "one byte, stored and drawn at 0", "N1", "A", "M1@0", "", NO },
+    { "the first byte stored", "N1 M4@1", "A", "M5@0", "", NO },
+    { "a byte in the middle stored", "M2@0 N1 M2@3", "C", "M5@0", "", NO },
+    { "the last byte stored", "M4@0 N1", "E", "M5@0", "", NO },
+    { "a byte more stored", "N2 M3@2", "AB", "N1 M4@1", "A", NO },
+    { "all stored, and two bytes", "N2 M3@2", "AB", "N5", "ABCDE", NO },
+    { "stored in several records and drawn", "N2 M1@2 N2", "ABDE", "M5@0", "", NO },
+    { "drawn and stored in several records", "M5@0", "", "N1 M1@6 N1 M1@3 N1", "ACE", NO },
+    { "stored where the other draws", "N2 M3@2", "AB", "M2@0 N3", "CDE", NO },
+    { "stored at either end", "N2 M3@2", "AB", "M3@0 N2", "DE", NO },
+    { "AA, of which either is stored, with one stored block", "N1 M1@0", "A", "M1@0 N1", "A", NO },
+    { "ABAB, of which either half is stored, with one stored block", "N2 M2@0", "AB", "M2@0 N2", "AB", NO },
+    { "XYABC, a stored block that would fit the other too", "N2 M3@0", "XY", "M2@10 N2 M1@2", "AB", NO },
+    /* Each byte from the same place, but stored blocks that differ. */
     { "the first byte, stored", "N5", "ABCDE", "N5", "XBCDE", NO },
+    { "a byte in the middle, stored", "N5", "ABCDE", "N5", "ABXDE", NO },
     { "the last byte, stored", "N5", "ABCDE", "N5", "ABCDX", NO },
-    { "the last byte, drawn", "M4@0 M1@4", "", "M4@5 M1@10", "", NO },
+    { "one stored byte", "N1", "a", "N1", "b", NO },
+    { "the first stored byte behind a match", "M5@0 N2", "ab", "M5@0 N2", "Xb", NO },
+    { "the last stored byte before a match", "N2 M5@0", "ab", "N2 M5@0", "aX", NO },
+    { "the first byte of the second new record", "N2 M5@0 N2", "abcd", "N2 M5@0 N2", "abXd", NO },
+    { "the last byte of the second new record", "N2 M5@0 N2", "abcd", "N2 M5@0 N2", "abcX", NO },
+    { "a stored byte behind a run that is cut differently", "N2 M4@0 N2", "abcd", "N2 M1@0 M3@1 N2", "abcX", NO },
+    { "a stored byte before a run that is cut differently", "N2 M4@0 N2", "abcd", "N2 M1@0 M3@1 N2", "aXcd", NO },
+    { "stored bytes in another order", "N1 M1@10 N1", "ab", "N1 M1@10 N1", "ba", NO },
+    { "stored bytes between held matches", "H2@0 N1 H2@2", "a", "H2@0 N1 H2@2", "b", NO },
+    /* One is the beginning of the other. */
+    { "an empty list and a drawn byte", "", "", "M1@0", "", NO },
+    { "an empty list and a stored byte", "", "", "N1", "a", NO },
+    { "a drawn byte less", "M4@0", "", "M5@0", "", NO },
+    { "a held byte less", "H4@0", "", "H5@0", "", NO },
+    { "a stored byte less", "N4", "ABCD", "N5", "ABCDE", NO },
+    { "a match less", "M5@0", "", "M5@0 M1@5", "", NO },
+    { "a match less, that does not go on", "M5@0", "", "M5@0 M2@10", "", NO },
+    { "a new record less", "N1 M5@0", "a", "N1 M5@0 N1", "ab", NO },
+    { "a match less behind a new record", "M5@0 N1", "a", "M5@0 N1 M1@0", "a", NO },
+    { "a byte less of a run that is cut differently", "M2@0 M2@2", "", "M3@0 M2@3", "", NO },
+    { "as many records, a byte less of the last", "M2@0 N1 M2@5", "a", "M2@0 N1 M3@5", "a", NO },
+    /* Other bytes. */
+    { "the first byte, held in both", "H2@0", "", "H2@10", "", NO },
+    { "the last byte, drawn", "M4@0 M1@4", "", "M4@0 M1@10", "", NO },
     { "the last byte, stored and drawn", "N4 M1@4", "ABCD", "M4@0 N1", "X", NO },
-    { "the last byte before a cut of one", "M2@0 M3@2", "", "N1 M4@1", "X", NO },
+    { "the first byte, before a cut of one", "M2@0 M3@2", "", "N1 M4@1", "X", NO },
     { "a byte behind a cut of one", "M1@0 N2 M2@3", "BX", "M5@0", "", NO },
     { "a byte in the middle, between other cuts", "M1@0 M4@1 M2@10", "", "M2@0 M4@2 M1@11", "", NO },
     { "the same parts in another order", "M2@0 M2@2", "", "M2@2 M2@0", "", NO },
-    { "stored bytes in another order", "N1 M1@10 N1", "ab", "N1 M1@10 N1", "ba", NO },
-    { "the first is a prefix of the second", "M4@0", "", "M5@0", "", NO },
-    { "the second is a prefix of the first", "N5", "ABCDE", "M4@5", "", NO },
-    { "an empty list and a byte", "", "", "M1@0", "", NO },
-    { "a byte and an empty list", "N1", "a", "", "", NO },
+    { "the same records in another order", "N2 M2@0", "ab", "M2@0 N2", "ab", NO },
+    { "sizes that change places", "M2@0 M3@5", "", "M3@0 M2@5", "", NO },
 };
 
 /* Of the list at fault: 2 and 3 stand below. */
@@ -468,14 +562,30 @@ static const struct {
     { "4 at 1 of the first before 4 at 0 of the second", "M1@0 N0", "", "N0", "", 4, 1 },
 };
 
+/* Accepted, with this yes or no, in both orders. */
+static void expect_pair(const void *store, size_t length, const struct pair *p)
+{
+    const struct values want = { .entries = p->same };
+    char what[96];
+    size_t n = list_of(p->first, list), m = list_of(p->second, second);
+    expect("compare", p->what, answered(compared_over(store, length, n, p->block, m, p->second_block), want) && untouched());
+    n = list_of(p->second, list), m = list_of(p->first, second);
+    snprintf(what, sizeof what, "%s, in the other order", p->what);
+    expect("compare", what, answered(compared_over(store, length, n, p->second_block, m, p->block), want) && untouched());
+}
+
 static void test_compare(void)
 {
     char what[80];
-    for (size_t i = 0; i < sizeof pairs / sizeof *pairs; i++) {
-        size_t n = list_of(pairs[i].first, list), m = list_of(pairs[i].second, second);
-        expect("compare", pairs[i].what, answered(compared(n, pairs[i].block, m, pairs[i].second_block), (struct values){ .entries = pairs[i].same })
-            && untouched());
-    }
+    for (size_t i = 0; i < sizeof worked_pairs / sizeof *worked_pairs; i++)
+        expect_pair(ababc, 5, &worked_pairs[i]);
+    for (size_t i = 0; i < sizeof pairs / sizeof *pairs; i++)
+        expect_pair(twice, 12, &pairs[i]);
+    /* The refused ones of clause 10.8. */
+    list_of("M2@0 M3@3", list), list_of("N0", second);
+    expect("compare", "7 at 1 of the first, over ABABC", refused(compared_over(ababc, 5, 24, "", 12, ""), 7, 1));
+    list_of("N1", list), list_of("M1@0 N0", second);
+    expect("compare", "4 at 1 of the second, over ABABC", refused(compared_over(ababc, 5, 12, "A", 24, ""), 4, 1));
     for (size_t i = 0; i < sizeof at_fault / sizeof *at_fault; i++) {
         size_t n = list_of(at_fault[i].list, list), m = list_of("N1 M1@0", second);
         snprintf(what, sizeof what, "%s in the first", at_fault[i].what);
@@ -1096,8 +1206,7 @@ static void test_no_choice(void)
 
 /* ---- Check_loose and tidy ---- */
 
-/* The store of the worked examples (clause 10.10); the other cases are over the letters A to T. Neither call reads a byte of it. */
-static const char ababc[] = "ABABC";
+/* The worked examples (clause 10.10) are over ABABC, the other cases over the letters A to T. Neither call reads a byte of the store. */
 
 static uint8_t list_before[AREA];
 
@@ -1338,7 +1447,7 @@ static void test_loose_lengths(void)
 
 enum { LONGEST = 136, WORD = 8 };
 
-static _Alignas(WORD) uint8_t version_bytes[WORD + LONGEST], store_bytes[WORD + LONGEST];
+static _Alignas(WORD) uint8_t version_bytes[WORD + LONGEST], store_bytes[WORD + LONGEST], second_bytes[2 * WORD + LONGEST];
 
 /* A match of so many bytes at an address of the store, none where that is 0, after a new record where its offset in the version is not 0; the byte at
  * which they differ, or the size where none does. No two bytes of the store are alike. */
@@ -1381,15 +1490,38 @@ static int finds(call *made, struct stretch t)
         && holds(block_area, version_bytes, made == estimated ? 0 : t.offset) && holds(area, "", 0) && handed_stays();
 }
 
-/* The second list stores the version in one new record. */
+/* Whether compare says so, in both orders, of so many records of the list with two stored blocks. */
+static int tells_blocks(size_t records, const uint8_t *block, const uint8_t *other, size_t stored, uint32_t same)
+{
+    const size_t n = RECORD_BYTES * records;
+    int as_wanted = 1;
+    for (int turn = 0; turn < 2; turn++) {
+        fill_areas();
+        const uint32_t number = compare(list, n, list, n, turn ? other : block, stored, turn ? block : other, stored, store_bytes, sizeof store_bytes,
+                                        answer, sizeof answer);
+        as_wanted &= answered(number, (struct values){ .entries = same }) && untouched();
+    }
+    return as_wanted;
+}
+
+/* Where the origins are the same, compare goes by the stored blocks. So the stretch is stored in both lists, as the version and as the store have it:
+ * first alone, each block at its place within a word; then behind up to 7 other stored bytes and a match, the second block at its place. */
 static int tells(struct stretch t)
 {
-    const size_t n = set_stretch(t), whole = t.offset + t.size;
-    put_record(second, 0, KIND_NEW, (uint32_t)whole, 0);
-    fill_areas();
-    const uint32_t number = compare(list, n, second, whole > 0 ? RECORD_BYTES : 0, version_bytes, t.offset, version_bytes, whole, store_bytes,
-                                    sizeof store_bytes, answer, sizeof answer);
-    return answered(number, (struct values){ .entries = t.differs < t.size ? NO : YES }) && untouched();
+    const uint32_t same = t.differs < t.size ? NO : YES;
+    uint8_t *other = second_bytes + t.address;
+    size_t n = 0;
+    set_stretch(t);
+    put_record(list, 0, KIND_NEW, t.size, 0);
+    const int alone = tells_blocks(t.size > 0, version_bytes + t.offset, store_bytes + t.address, t.size, same);
+    memset(other, '-', t.offset);
+    memcpy(other + t.offset, store_bytes + t.address, t.size);
+    if (t.offset > 0)
+        put_record(list, n++, KIND_NEW, t.offset, 0);
+    put_record(list, n++, KIND_MATCH, WORD, 0);
+    if (t.size > 0)
+        put_record(list, n++, KIND_NEW, t.size, 0);
+    return alone && tells_blocks(n, version_bytes, other, t.offset + t.size, same);
 }
 
 /* Every size, every byte that differs and none, at every pair of places within a word; each of the eight bits of a byte is the one that differs. */
@@ -1407,7 +1539,7 @@ static void test_stretches(void)
                 by_pass &= finds(pass, t);
                 by_compare &= tells(t);
             }
-        snprintf(what, sizeof what, "a byte that differs in a match of %u", (unsigned)size);
+        snprintf(what, sizeof what, "a byte that differs in a stretch of %u", (unsigned)size);
         expect("partition", what, by_partition);
         expect("estimate", what, by_estimate);
         expect("commit", what, by_commit);
@@ -1535,18 +1667,6 @@ static void test_greatest_lists(void)
     fill_areas();
     expect("partition", "2 before 3", refused(partition(1, 1, 1, most, length - 1, bytes, VERSION_MOST + 1, bytes, VERSION_MOST, bits, RECORDS_MOST, out,
         length, stored, VERSION_MOST, answer, sizeof answer), 2, 0));
-    /* 4,096 matches and one cover the same 16,777,216 bytes of 0; then the last stored byte differs. */
-    for (size_t i = 0; i < RECORDS_MOST; i++)
-        put_record(most, i, KIND_MATCH, VERSION_MOST / RECORDS_MOST, (uint32_t)(3 * i));
-    put_record(out, 0, KIND_NEW, VERSION_MOST, 0);
-    memset(stored, 0, VERSION_MOST);
-    fill_areas();
-    expect("compare", "4,096 records and one, 16,777,216 bytes", answered(compare(most, length, out, RECORD_BYTES, bytes, 0, stored, VERSION_MOST, bytes,
-        VERSION_MOST, answer, sizeof answer), (struct values){ .entries = YES }));
-    stored[VERSION_MOST - 1] = 1;
-    fill_areas();
-    expect("compare", "the last of 16,777,216 bytes", answered(compare(most, length, out, RECORD_BYTES, bytes, 0, stored, VERSION_MOST, bytes, VERSION_MOST,
-        answer, sizeof answer), (struct values){ .entries = NO }));
     free(most), free(out), free(bits), free(zeros), free(bytes), free(stored);
 }
 
@@ -1712,6 +1832,182 @@ static void test_greatest_choices(void)
     test_great_commits();
     test_great_no_choices();
     free(great.list), free(great.bits), free(great.bytes), free(great.out), free(great.stored), free(great.wanted);
+}
+
+/* ---- Compare: the greatest sizes, over a store that cannot be read ---- */
+
+/* The longest store: a read of it ends the test. */
+static const uint8_t *unreadable;
+
+static void store_was_read(int signal_number)
+{
+    (void)signal_number;
+    printf("calls: compare, a byte of the store was read\n");
+    fflush(stdout);
+    _Exit(1);
+}
+
+/* Over the longest store: its last bytes, and addresses that differ in one byte of the field, also behind a cut. */
+static const struct pair far_pairs[] = {
+    { "the last bytes of the store", "N1 M5@268435451", "a", "N1 M5@268435451", "a", YES },
+    { "the last bytes of the store, cut in two", "M5@268435451", "", "M2@268435451 M3@268435453", "", YES },
+    { "the last bytes of the store, held, cut in three", "H5@268435451", "", "H1@268435451 H3@268435452 H1@268435455", "", YES },
+    { "the last 16,777,216 bytes, and the last one alone", "M16777216@251658240", "", "M16777215@251658240 M1@268435455", "", YES },
+    { "a run across 256", "M5@254", "", "M2@254 M3@256", "", YES },
+    { "a run across 65,536", "M5@65534", "", "M2@65534 M3@65536", "", YES },
+    { "a run across 16,777,216", "M5@16777214", "", "M2@16777214 M3@16777216", "", YES },
+    { "pieces of 65,536 bytes, and one of 131,072", "M65536@65536 M65536@131072", "", "M131072@65536", "", YES },
+    { "the last bytes, and those a byte before", "M5@268435451", "", "M5@268435450", "", NO },
+    { "the last bytes, and the first", "M5@268435451", "", "M5@0", "", NO },
+    { "the last 16,777,216 bytes, and those a byte before", "M16777216@251658240", "", "M16777216@251658239", "", NO },
+    { "the mark of the last byte of the store", "M5@268435451", "", "M4@268435451 H1@268435455", "", NO },
+    { "a stored byte before the last bytes of the store", "N1 M5@268435451", "a", "N1 M5@268435451", "b", NO },
+    { "1 apart", "M5@0", "", "M5@1", "", NO },
+    { "256 apart", "M5@0", "", "M5@256", "", NO },
+    { "65,536 apart", "M5@0", "", "M5@65536", "", NO },
+    { "16,777,216 apart", "M5@0", "", "M5@16777216", "", NO },
+    { "256 apart behind a cut", "M5@254", "", "M2@254 M3@0", "", NO },
+    { "65,536 apart behind a cut", "M5@65534", "", "M2@65534 M3@0", "", NO },
+    { "16,777,216 apart behind a cut", "M5@16777214", "", "M2@16777214 M3@0", "", NO },
+    { "sizes 65,536 apart", "M5@0", "", "M65541@0", "", NO },
+    { "16,777,216 bytes and a byte less", "M16777216@0", "", "M16777215@0", "", NO },
+};
+
+/* Two lists of up to 4,096 records, and a stored block for each. */
+static struct {
+    uint8_t *first, *second, *block, *second_block;
+} beside;
+
+static void put_beside(uint8_t *to, uint32_t i, char as, uint32_t size, uint32_t address)
+{
+    put_record(to, i, as == 'N' ? KIND_NEW : KIND_MATCH, size, address);
+    to[RECORD_BYTES * i + 1] = as == 'H' ? MARK_HELD : 0;
+}
+
+/* The last 16,777,216 bytes of the store, in 4,096 parts. */
+enum { FROM = STORE_MOST - VERSION_MOST };
+
+static void put_parts(char as)
+{
+    for (uint32_t i = 0; i < RECORDS_MOST; i++)
+        put_beside(beside.first, i, as, PART, FROM + PART * i);
+}
+
+/* So many records of each list, in both orders, with so many bytes of their blocks. */
+static void expect_beside(const char *what, uint32_t records, uint32_t second_records, size_t stored, uint32_t same)
+{
+    const size_t n = RECORD_BYTES * records, m = RECORD_BYTES * second_records;
+    char turned[96];
+    fill_areas();
+    expect("compare", what, answered(compare(beside.first, n, beside.second, m, beside.block, stored, beside.second_block, stored, unreadable,
+        STORE_MOST, answer, sizeof answer), (struct values){ .entries = same }) && untouched());
+    snprintf(turned, sizeof turned, "%s, in the other order", what);
+    fill_areas();
+    expect("compare", turned, answered(compare(beside.second, m, beside.first, n, beside.second_block, stored, beside.block, stored, unreadable,
+        STORE_MOST, answer, sizeof answer), (struct values){ .entries = same }) && untouched());
+}
+
+/* 4,096 matches that go on beside one, two, three and as many; then one origin differs, in the first record, in one of the middle, or in the last. */
+static void test_many_beside_few(void)
+{
+    put_parts('M'), put_beside(beside.second, 0, 'M', VERSION_MOST, FROM);
+    expect_beside("4,096 records and one", RECORDS_MOST, 1, 0, YES);
+    put_beside(beside.second, 0, 'H', VERSION_MOST, FROM);
+    expect_beside("4,096 records and a held one", RECORDS_MOST, 1, 0, NO);
+    put_parts('H');
+    expect_beside("4,096 held records and a held one", RECORDS_MOST, 1, 0, YES);
+    const uint32_t places[] = { 0, 1, 2048, RECORDS_MOST - 2, RECORDS_MOST - 1 };
+    char what[96];
+    for (size_t k = 0; k < sizeof places / sizeof *places; k++) {
+        const uint32_t i = places[k];
+        snprintf(what, sizeof what, "4,096 held records and one, without the mark of record %u", (unsigned)i);
+        put_parts('H'), put_beside(beside.first, i, 'M', PART, FROM + PART * i);
+        expect_beside(what, RECORDS_MOST, 1, 0, NO);
+        snprintf(what, sizeof what, "4,096 held records and one, record %u a byte before", (unsigned)i);
+        put_parts('H'), put_beside(beside.first, i, 'H', PART, FROM + PART * i - 1);
+        expect_beside(what, RECORDS_MOST, 1, 0, NO);
+    }
+    put_parts('M');
+    put_beside(beside.second, 0, 'M', 5000001, FROM), put_beside(beside.second, 1, 'M', VERSION_MOST - 5000001, FROM + 5000001);
+    expect_beside("4,096 records and two", RECORDS_MOST, 2, 0, YES);
+    put_beside(beside.second, 1, 'M', VERSION_MOST - 5000001, FROM + 5000000);
+    expect_beside("4,096 records and two, the second a byte before", RECORDS_MOST, 2, 0, NO);
+    put_beside(beside.second, 0, 'M', 1, FROM), put_beside(beside.second, 1, 'M', VERSION_MOST - 2, FROM + 1);
+    put_beside(beside.second, 2, 'M', 1, STORE_MOST - 1);
+    expect_beside("4,096 records and three", RECORDS_MOST, 3, 0, YES);
+    expect_beside("4,096 records and three, less the last", RECORDS_MOST, 2, 0, NO);
+    expect_beside("4,095 records and three", RECORDS_MOST - 1, 3, 0, NO);
+    put_beside(beside.second, 2, 'H', 1, STORE_MOST - 1);
+    expect_beside("4,096 records and three, the last byte held", RECORDS_MOST, 3, 0, NO);
+    /* Every cut of the second list is in the middle of a record of the first. */
+    put_beside(beside.second, 0, 'M', PART / 2, FROM);
+    for (uint32_t i = 1; i < RECORDS_MOST; i++)
+        put_beside(beside.second, i, 'M', i < RECORDS_MOST - 1 ? PART : PART + PART / 2, FROM + PART * i - PART / 2);
+    expect_beside("4,096 records and as many, by cuts that cross", RECORDS_MOST, RECORDS_MOST, 0, YES);
+    put_beside(beside.second, RECORDS_MOST - 1, 'H', PART + PART / 2, STORE_MOST - PART - PART / 2);
+    expect_beside("4,096 records and as many, the last held", RECORDS_MOST, RECORDS_MOST, 0, NO);
+}
+
+/* 16,777,216 stored bytes, and half as many between matches; the last one differs, or the first, or one between. */
+static void test_most_stored(void)
+{
+    const uint32_t half = VERSION_MOST / 2;
+    for (uint32_t i = 0; i < VERSION_MOST; i++)
+        beside.block[i] = beside.second_block[i] = (uint8_t)(i ^ i >> 8 ^ i >> 16);
+    put_beside(beside.first, 0, 'N', VERSION_MOST, 0), put_beside(beside.second, 0, 'N', VERSION_MOST, 0);
+    expect_beside("16,777,216 stored bytes", 1, 1, VERSION_MOST, YES);
+    const uint32_t places[] = { 0, half - 1, half, VERSION_MOST - 1 };
+    char what[96];
+    for (size_t k = 0; k < sizeof places / sizeof *places; k++) {
+        snprintf(what, sizeof what, "16,777,216 stored bytes, of which byte %u differs", (unsigned)places[k]);
+        beside.block[places[k]] ^= 128;
+        expect_beside(what, 1, 1, VERSION_MOST, NO);
+        beside.block[places[k]] ^= 128;
+    }
+    for (uint32_t i = 0; i < RECORDS_MOST; i++) {
+        put_beside(beside.first, i, i % 2 ? 'M' : 'N', PART, i % 2 ? 3 * i : 0);
+        put_beside(beside.second, i, i % 2 ? 'M' : 'N', PART, i % 2 ? 3 * i : 0);
+    }
+    expect_beside("4,096 records in turns", RECORDS_MOST, RECORDS_MOST, half, YES);
+    beside.block[half - 1] ^= 128;
+    expect_beside("4,096 records in turns, of which the last stored byte differs", RECORDS_MOST, RECORDS_MOST, half, NO);
+    beside.block[half - 1] ^= 128;
+    put_beside(beside.second, RECORDS_MOST - 1, 'H', PART, 3 * (RECORDS_MOST - 1));
+    expect_beside("4,096 records in turns, the last held", RECORDS_MOST, RECORDS_MOST, half, NO);
+    /* Bytes of 0, stored by one list and drawn by the other, from a store that can be read. */
+    for (uint32_t i = 0; i < RECORDS_MOST; i++)
+        put_beside(beside.first, i, 'M', PART, 3 * i);
+    put_beside(beside.second, 0, 'N', VERSION_MOST, 0);
+    memset(beside.block, 0, VERSION_MOST);
+    fill_areas();
+    expect("compare", "4,096 records, and one that stores the same bytes", answered(compare(beside.first, LENGTH, beside.second, RECORD_BYTES,
+        beside.block, 0, beside.block, VERSION_MOST, beside.block, VERSION_MOST, answer, sizeof answer), (struct values){ .entries = NO }) && untouched());
+}
+
+static void test_unread_store(void)
+{
+    unreadable = mmap(NULL, STORE_MOST, PROT_NONE, MAP_PRIVATE | MAP_ANONYMOUS | MAP_NORESERVE, -1, 0);
+    if (unreadable == MAP_FAILED) {
+        printf("calls: no address space for a store that cannot be read\n");
+        exit(1);
+    }
+    beside.first = memory(LENGTH), beside.second = memory(LENGTH), beside.block = memory(VERSION_MOST), beside.second_block = memory(VERSION_MOST);
+    hand("");
+    signal(SIGSEGV, store_was_read);
+    for (size_t i = 0; i < sizeof far_pairs / sizeof *far_pairs; i++)
+        expect_pair(unreadable, STORE_MOST, &far_pairs[i]);
+    /* Of a store only the length matters: so much of this one answers as ABCDEABCDEXY does. */
+    for (size_t i = 0; i < sizeof pairs / sizeof *pairs; i++)
+        expect_pair(unreadable, 12, &pairs[i]);
+    list_of("M5@268435452", list), list_of("M5@268435451", second);
+    expect("compare", "a byte beyond the store in the first", refused(compared_over(unreadable, STORE_MOST, 12, "", 12, ""), 7, 0));
+    list_of("M5@268435451", list), list_of("M5@268435452", second);
+    expect("compare", "a byte beyond the store in the second", refused(compared_over(unreadable, STORE_MOST, 12, "", 12, ""), 7, 0));
+    test_many_beside_few();
+    test_most_stored();
+    signal(SIGSEGV, SIG_DFL);
+    free(beside.first), free(beside.second), free(beside.block), free(beside.second_block);
+    munmap((void *)unreadable, STORE_MOST);
 }
 
 /* The most records of a loose list, the list that should be written, and the area, with a guard behind each limit. */
@@ -1887,6 +2183,7 @@ int main(void)
     test_stretches();
     test_greatest_lists();
     test_greatest_choices();
+    test_unread_store();
     test_greatest_loose();
     test_greatest_store();
     printf("calls: %d cases of %d, %d wrong\n", cases, CASES, wrong);

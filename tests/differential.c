@@ -7,14 +7,16 @@
  * that stands alone and is not held is stored exactly where that costs less, the held bytes of the version stay held at their addresses, and the
  * pass keeps its bounds; the estimate answers as partition does, refused or not, but for 9, and a commitment of its choice gives what partition
  * gave, byte for byte; what is committed of any choice rebuilds the version and costs no less, with every match kept it is the list handed in with
- * its runs joined, and what is no choice is refused at the place where it was spoilt; two lists are said to give the same version exactly where
- * rebuild makes the same bytes of both, in either order, and a list gives the same version as itself and as what partition and pass wrote of it; a
- * match is refused, and a list said to give another version, exactly where one of its bytes differs, whichever it is; measure, rebuild, check,
- * compare and check_loose do the same for a list without its marks, sound or not. Check_loose says what check says of a list, but for 5, 10 and 11,
- * and tidy what check_loose says, but for 9; a list cut into loose pieces has the tidy form of the list; what tidy wrote has the origins of the loose
- * list, leaves nothing to join, comes back from tidy, is sound for check with the loose list's stored block, and rebuilds what that list stands for;
- * two loose lists have the same tidy form exactly where each byte has the same origin; what partition, commit and pass wrote comes back from tidy,
- * and a commitment with every match kept writes what tidy writes.
+ * its runs joined, and what is no choice is refused at the place where it was spoilt. Compare refuses as check does, the first list first. It says yes
+ * exactly where rebuild makes the same bytes of both lists and each byte has the same origin in both, and exactly where tidy forms and stored blocks
+ * are the same, in either order; so of a list and itself, and of a list and what tidy wrote of it, or it gives the list's refusal. Of a list and what
+ * partition, commit or pass wrote of it, it says yes exactly where no match was given up, and of a list and itself without its marks it says no; over
+ * a store that cannot be read it answers the same. A match is refused, and a stored stretch told from another, exactly where one of its bytes differs,
+ * whichever it is; measure, rebuild, check and check_loose do the same for a list without its marks, sound or not. Check_loose says what check says
+ * of a list, but for 5, 10 and 11, and tidy what check_loose says, but for 9; a list cut into loose pieces has the tidy form of the list; what tidy
+ * wrote has the origins of the loose list, leaves nothing to join, comes back from tidy, is sound for check with the loose list's stored block, and
+ * rebuilds what that list stands for; two loose lists have the same tidy form exactly where each byte has the same origin; what partition, commit and
+ * pass wrote comes back from tidy, and a commitment with every match kept writes what tidy writes.
  *
  * In order: the calls; chance; the areas; fields; reports; one comparison; the laws; choices to commit; one case; valid inputs; second lists;
  * damage; loose lists; the cases; the table. Not here: NULL for an empty area, which controller.h does not allow.
@@ -23,18 +25,22 @@
  *
  * The same seed gives the same inputs. Exit 0 where nothing differs, each number of docs/SPECIFICATION.md, section 5, for each list of compare, and each kind of
  * price below was reached, 4 also for a mark on a new record and for byte 1 over 1 on a match, 12 for each of its five causes, each kind of choice
- * was judged by commit and stood behind another fault, and choices were committed that cost more than the estimate's, and as much, a match differed
- * in one byte at each pair of places within a word, yes of two different lists and no were each given in two pairs of five or more, of neighbouring
- * matches two in five or more go on in the store and as many do not, about a third of the matches are held, and about a third of those that go on
- * have another mark, marks were flipped, a short list would have been cheaper with a held match stored, calls were made without the marks,
- * accepted and refused, of two loose lists two in five or more have the same origins and as many have not, loose lists had new records side by side
- * and matches to join, and an area was too short for a loose list though its tidy form fits; else 1.
+ * was judged by commit and stood behind another fault, and choices were committed that cost more than the estimate's, and as much, a match and a
+ * stored stretch differed in one byte at each pair of places within a word, of the pairs of different lists that compare accepted a third or more
+ * have the same bytes from the same places and are cut differently, a third or more have the same bytes from other places, by kind, by address and by
+ * mark, and some other bytes, in the stored blocks alone, as the beginning of the other, and else, partition, commit and pass each kept every match of
+ * a list and gave one up, of neighbouring matches two in five or more go on in the store and as many do not, about a third of the matches are held,
+ * and about a third of those that go on have another mark, marks were flipped, a short list would have been cheaper with a held match stored, calls
+ * were made without the marks, accepted and refused, of two loose lists two in five or more have the same origins and as many have not, loose lists
+ * had new records side by side and matches to join, and an area was too short for a loose list though its tidy form fits; else 1.
  */
+#define _DEFAULT_SOURCE
 #include <inttypes.h>
 #include <signal.h>
 #include <stdio.h>
 #include <stdlib.h>
 #include <string.h>
+#include <sys/mman.h>
 
 #include "controller.h"
 #include "reference/reference.h"
@@ -95,6 +101,9 @@ static uint8_t *list_copy, *version_copy, *store_copy, *block_copy, *second_copy
 static uint8_t *zeros;
 static uint8_t noise[2 * NOISE];
 
+/* A store of any length that cannot be read. */
+static uint8_t *unreadable;
+
 /* The areas to write. */
 enum { CHOICE, LIST, BLOCK, WHOLE, ANSWER, AREAS };
 enum { LIBRARY, REFERENCE, UNTOUCHED, SIDES };
@@ -128,8 +137,8 @@ static const unsigned lent[CALLS] = {
 /* The areas of the second partition and of the laws. */
 static uint8_t *law_choice, *law_list, *law_block, *law_whole, *law_second, *law_second_whole;
 
-/* Two loose lists, and the tidy form of one. */
-static uint8_t *loose_bytes, *other_bytes, *law_tidy;
+/* Two loose lists, the tidy form of one, and a list without its marks. */
+static uint8_t *loose_bytes, *other_loose_bytes, *law_tidy, *bare_bytes;
 
 /* What partition wrote, for the estimate and the commitment. */
 static uint8_t *kept_choice, *kept_list, *kept_block;
@@ -154,11 +163,16 @@ static void make_room(void)
     second_bytes = room_for(list_most), second_copy = room_for(list_most);
     second_block_bytes = room_for(VERSION_MOST), second_block_copy = room_for(VERSION_MOST);
     zeros = room_for(STORE_MOST);
+    unreadable = mmap(NULL, STORE_MOST + ROOM, PROT_NONE, MAP_PRIVATE | MAP_ANONYMOUS | MAP_NORESERVE, -1, 0);
+    if (unreadable == MAP_FAILED) {
+        puts("differential: no address space");
+        exit(1);
+    }
     law_choice = room_for(RECORDS_MOST), law_list = room_for(list_most), law_second = room_for(list_most);
     law_block = room_for(VERSION_MOST), law_whole = room_for(VERSION_MOST), law_second_whole = room_for(VERSION_MOST);
     kept_choice = room_for(RECORDS_MOST), kept_list = room_for(list_most), kept_block = room_for(VERSION_MOST);
     handed_bytes = room_for(RECORDS_MOST), handed_copy = room_for(RECORDS_MOST);
-    loose_bytes = room_for(list_most), other_bytes = room_for(list_most), law_tidy = room_for(list_most);
+    loose_bytes = room_for(list_most), other_loose_bytes = room_for(list_most), law_tidy = room_for(list_most), bare_bytes = room_for(list_most);
     for (int a = 0; a < AREAS; a++)
         for (int side = 0; side < SIDES; side++)
             areas[a].bytes[side] = room_for(areas[a].most);
@@ -797,12 +811,68 @@ struct listed {
 /* What compare says of two lists. */
 enum { NO, YES, REFUSED };
 
-static uint32_t says(struct listed a, struct listed b, const struct input *in)
+static struct given compare_over(const uint8_t *store, struct listed a, struct listed b, const struct input *in)
 {
     uint8_t answer[ANSWER_BYTES];
-    const uint32_t number = compare(a.list, a.list_len, b.list, b.list_len, a.block, a.block_len, b.block, b.block_len, in->store,
+    const uint32_t number = compare(a.list, a.list_len, b.list, b.list_len, a.block, a.block_len, b.block, b.block_len, store,
                                     in->store_len, answer, sizeof answer);
-    return number == ACCEPTED ? answer_entries(answer) : REFUSED;
+    const struct given g = read_answer(answer);
+    if (g.number != number || !same_answers(&g, &(struct given){ .number = number, .place = g.place, .entries = g.entries }))
+        differ(COMPARE, "returned another number than it answered, or answered more than yes or no", in);
+    return g;
+}
+
+static uint32_t says(struct listed a, struct listed b, const struct input *in)
+{
+    const struct given g = compare_over(in->store, a, b, in);
+    return g.number == ACCEPTED ? g.entries : REFUSED;
+}
+
+/* What check says of a list, as far as compare asks it: 11 is no fault. */
+static struct given check_of(struct listed a, const struct input *in)
+{
+    uint8_t answer[ANSWER_BYTES];
+    check(a.list, a.list_len, a.block, a.block_len, in->store, in->store_len, 0, answer, sizeof answer);
+    const struct given g = read_answer(answer);
+    return g.number == NO_SUCH_RECORD ? (struct given){ 0 } : g;
+}
+
+static struct listed first_of(const struct input *in)
+{
+    return (struct listed){ in->list, in->list_len, in->block, in->block_len };
+}
+
+static struct listed second_of(const struct input *in)
+{
+    return (struct listed){ in->second, in->second_len, in->second_block, in->second_block_len };
+}
+
+/* What tidy writes of a list, with the list's stored block; no records where it refuses. */
+static struct listed tidied_of(struct listed a, uint8_t *to, const struct input *in)
+{
+    uint8_t answer[ANSWER_BYTES];
+    const int accepted = tidy(a.list, a.list_len, in->store, in->store_len, to, a.list_len, answer, sizeof answer) == ACCEPTED;
+    return (struct listed){ to, accepted ? RECORD_BYTES * (size_t)answer_entries(answer) : 0, a.block, a.block_len };
+}
+
+/* The refusal is check's of the first list, else check's of the second. A list that is refused is refused beside itself, and beside what tidy writes
+ * of it. Over a store that is as long and cannot be read the answer is the same. */
+static void law_of_judging(const struct input *in)
+{
+    const struct listed a = first_of(in), b = second_of(in), tidied = tidied_of(a, law_tidy, in);
+    const struct given of_first = check_of(a, in), of_second = check_of(b, in);
+    const struct given *g = &given[COMPARE], *fault = of_first.number != ACCEPTED ? &of_first : &of_second;
+    current_call = COMPARE;
+    if (g->number != fault->number || g->place != fault->place)
+        differ(COMPARE, "refused otherwise than by check of the first list, then of the second", in);
+    const struct given itself = compare_over(in->store, a, a, in), tidy_form = compare_over(in->store, a, tidied, in);
+    if (of_first.number != ACCEPTED && (!same_answers(&itself, &of_first) || !same_answers(&tidy_form, &of_first)))
+        differ(COMPARE, "a list is refused otherwise beside itself, or beside what tidy wrote of it", in);
+    if (of_first.number == ACCEPTED && (itself.entries != YES || tidy_form.number != ACCEPTED || tidy_form.entries != YES))
+        differ(COMPARE, "no yes of a list and itself, or of a list and what tidy wrote of it", in);
+    const struct given unread = compare_over(unreadable, a, b, in);
+    if (!same_answers(&unread, g))
+        differ(COMPARE, "another answer over a store that cannot be read", in);
 }
 
 /* Rebuilds the version of a list; its length. */
@@ -814,23 +884,97 @@ static uint32_t rebuild_into(uint8_t *version, struct listed a, const struct inp
     return answer_whole(answer);
 }
 
-static uint64_t yes_of_one_list, yes_of_two_lists, no;
+/* Where each byte comes from: 0 where it is new, else twice its address, its mark, and 2. */
+static uint64_t origins[2][ROOM];
 
-/* Yes exactly where both lists rebuild the same bytes, in either order; and of a list and itself. */
+/* The origins by a sound list; how many bytes it covers, or one more than there is room for. */
+static size_t write_origins(uint64_t *to, const uint8_t *list, size_t list_len)
+{
+    size_t whole = 0;
+    for (const uint8_t *r = list; r < list + list_len; r += RECORD_BYTES) {
+        const uint32_t size = get32(r + 4);
+        if (size > ROOM - whole)
+            return ROOM + 1;
+        const uint64_t first = 2 * (uint64_t)get32(r + 8) + r[1] + 2;
+        for (uint32_t i = 0; i < size; i++)
+            to[whole + i] = r[0] == 0 ? 0 : first + 2 * (uint64_t)i;
+        whole += size;
+    }
+    return whole;
+}
+
+/* How two stretches of equal length, each under one record, so many bytes into it, come from different places; if they do. */
+enum { AS_NEW, BY_ADDRESS, BY_MARK, WAYS, SAME = WAYS, BY_LENGTH };
+
+static int other_origin(const uint8_t *a, uint32_t into_a, const uint8_t *b, uint32_t into_b)
+{
+    if (a[0] != b[0])
+        return AS_NEW;
+    if (a[0] == 1 && (uint64_t)get32(a + 8) + into_a != (uint64_t)get32(b + 8) + into_b)
+        return BY_ADDRESS;
+    return a[1] != b[1] ? BY_MARK : SAME;
+}
+
+/* Stretch by stretch of the version: the first way in which two sound lists have other origins; or that one of them ends before the other. */
+static int first_other_origin(const uint8_t *a, size_t a_len, const uint8_t *b, size_t b_len)
+{
+    const uint8_t *const end_a = a + a_len, *const end_b = b + b_len;
+    uint32_t into_a = 0, into_b = 0;
+    while (a < end_a && b < end_b) {
+        const uint32_t rest_a = get32(a + 4) - into_a, rest_b = get32(b + 4) - into_b, part = rest_a < rest_b ? rest_a : rest_b;
+        const int way = other_origin(a, into_a, b, into_b);
+        if (way != SAME)
+            return way;
+        into_a = part < rest_a ? into_a + part : 0;
+        into_b = part < rest_b ? into_b + part : 0;
+        a += into_a == 0 ? RECORD_BYTES : 0;
+        b += into_b == 0 ? RECORD_BYTES : 0;
+    }
+    return a == end_a && b == end_b ? SAME : BY_LENGTH;
+}
+
+/* The same byte by byte, where the version is short: whether the origins are the same. */
+static void origins_agree(struct listed a, struct listed b, int same, const struct input *in)
+{
+    const size_t n = write_origins(origins[0], a.list, a.list_len), m = write_origins(origins[1], b.list, b.list_len);
+    if (n <= ROOM && same != (n == m && memcmp(origins[0], origins[1], n * sizeof **origins) == 0))
+        differ(COMPARE, "byte by byte the origins are others than stretch by stretch: the test is at fault", in);
+}
+
+/* Pairs of which neither list is refused: one and the same list with one block; different lists, cut differently, that agree in bytes and origins;
+ * such as agree in bytes, by the first way in which their origins differ; and such as do not: in the blocks alone, as one is the beginning of the
+ * other, and else. */
+static uint64_t one_list, cut_otherwise, same_bytes[WAYS], other_blocks, beginnings, other_bytes;
+
+static void tally_pair(struct listed a, struct listed b, int bytes_agree, int way)
+{
+    const int one = a.list_len == b.list_len && memcmp(a.list, b.list, a.list_len) == 0;
+    if (bytes_agree)
+        *(way == SAME ? (one ? &one_list : &cut_otherwise) : &same_bytes[way]) += 1;
+    else
+        *(way == SAME ? &other_blocks : way == BY_LENGTH ? &beginnings : &other_bytes) += 1;
+}
+
+/* Yes exactly where both lists rebuild the same bytes and each byte has the same origin in both; and exactly where tidy writes the same list of both,
+ * and their stored blocks are the same. In either order. */
 static void law_of_compare(const struct input *in)
 {
-    const struct listed a = { in->list, in->list_len, in->block, in->block_len };
-    const struct listed b = { in->second, in->second_len, in->second_block, in->second_block_len };
+    const struct listed a = first_of(in), b = second_of(in);
     const uint32_t n = rebuild_into(law_whole, a, in), m = rebuild_into(law_second_whole, b, in);
-    const uint32_t same = n == m && memcmp(law_whole, law_second_whole, n) == 0 ? YES : NO;
+    const int bytes_agree = n == m && memcmp(law_whole, law_second_whole, n) == 0, way = first_other_origin(a.list, a.list_len, b.list, b.list_len);
+    const uint32_t same = bytes_agree && way == SAME ? YES : NO;
+    origins_agree(a, b, way == SAME, in);
     if (given[COMPARE].entries != same)
-        differ(COMPARE, same ? "no of lists that rebuild the same bytes" : "yes of lists that rebuild different bytes", in);
+        differ(COMPARE, same ? "no of lists with the same bytes from the same places"
+                        : bytes_agree ? "yes of lists with the same bytes from other places" : "yes of lists that rebuild different bytes", in);
     if (says(b, a, in) != same)
         differ(COMPARE, "another answer in the other order", in);
-    if (says(a, a, in) != YES)
-        differ(COMPARE, "no yes of a list and itself", in);
-    const int one_list = a.list_len == b.list_len && memcmp(a.list, b.list, a.list_len) == 0;
-    *(same == NO ? &no : one_list ? &yes_of_one_list : &yes_of_two_lists) += 1;
+    const struct listed form = tidied_of(a, law_list, in), second_form = tidied_of(b, law_second, in);
+    const int one_form = form.list_len == second_form.list_len && memcmp(form.list, second_form.list, form.list_len) == 0;
+    const int one_block = a.block_len == b.block_len && memcmp(a.block, b.block, a.block_len) == 0;
+    if (same != (one_form && one_block ? YES : NO))
+        differ(COMPARE, same ? "yes where tidy forms or stored blocks differ" : "no where tidy forms and stored blocks are the same", in);
+    tally_pair(a, b, bytes_agree, way);
 }
 
 /* Takes the marks off a list, into other bytes: 1 in byte 1 of a match becomes 0, and all else stays, sound or not. How many there were. */
@@ -846,16 +990,12 @@ static size_t take_marks(const uint8_t *list, size_t list_len, uint8_t *to)
     return taken;
 }
 
-/* The same inputs without the marks of the first list, and mostly without those of the second; whether the first had some. */
+/* The same inputs without the marks of the list; whether it had some. */
 static int without_marks(const struct input *in, struct input *unmarked)
 {
     *unmarked = *in;
-    unmarked->list = law_list;
-    if (!one_in(4)) {
-        unmarked->second = law_second;
-        take_marks(in->second, in->second_len, law_second);
-    }
-    return take_marks(in->list, in->list_len, law_list) > 0;
+    unmarked->list = bare_bytes;
+    return take_marks(in->list, in->list_len, bare_bytes) > 0;
 }
 
 /* The calls on lists without their marks, by whether they were refused. */
@@ -891,13 +1031,12 @@ static void law_of_check_loose(const struct input *in)
         differ(CHECK_LOOSE, "says otherwise than check", in);
 }
 
-/* A list gives the same version as itself without its marks. */
+/* To compare the mark is part of where a byte comes from: it says no of a list and itself without its marks. */
 static void law_of_compare_without_marks(const struct input *in, const struct input *unmarked)
 {
-    const struct listed marked = { in->list, in->list_len, in->block, in->block_len };
-    const struct listed bare = { unmarked->list, in->list_len, in->block, in->block_len };
-    if (says(marked, bare, in) != YES || says(bare, marked, in) != YES)
-        differ(COMPARE, "no yes of a list and itself without its marks", in);
+    const struct listed marked = first_of(in), bare = first_of(unmarked);
+    if (says(marked, bare, in) != NO || says(bare, marked, in) != NO)
+        differ(COMPARE, "yes, or a refusal, of a list and itself without its marks", in);
 }
 
 /* The list handed in with its runs joined, into the areas of the laws; how many records. */
@@ -908,15 +1047,25 @@ static size_t join_runs(const struct input *in, size_t *stored)
     return list_of_choice(in, law_choice, stored);
 }
 
-/* The list handed in, with its stored block, and the written one give the same version. */
-static void law_of_same_version(int call, const struct input *in)
+/* What compare said of a list and the written one, by the call that wrote it. */
+static uint64_t of_written[CALLS][2];
+
+/* Compare says yes of the list handed in, with its stored block, and the written one, where the choice has 0 for each match; else no. */
+static void law_of_given_up(int call, const struct input *in)
 {
+    const uint8_t *choice = call == COMMIT ? in->handed : area(CHOICE, LIBRARY);
+    uint32_t same = YES;
     size_t stored;
     join_runs(in, &stored);
+    for (size_t i = 0; i < records(in); i++)
+        if (record(in->list, i)[0] == 1 && choice[i] == 1)
+            same = NO;
     const struct listed handed = { in->list, in->list_len, law_block, stored };
     const struct listed written = { area(LIST, LIBRARY), RECORD_BYTES * given[call].entries, area(BLOCK, LIBRARY), given[call].stored };
-    if (says(handed, written, in) != YES)
-        differ(call, "the written list does not give the version of the list handed in", in);
+    if (says(handed, written, in) != same)
+        differ(call, same ? "compare says no of a list and the written one, which keeps each match"
+                          : "compare says yes of a list and the written one, which gives a match up", in);
+    of_written[call][same]++;
 }
 
 /* The pass costs no less than partition's list, no more than the list handed in and no more than that with its runs joined, and makes at most
@@ -1061,6 +1210,7 @@ static void laws_of_commit(const struct input *in, struct handing handing)
     law_of_rebuild(COMMIT, in);
     law_of_held(COMMIT, in);
     law_of_tidy(COMMIT, in);
+    law_of_given_up(COMMIT, in);
     if (handing.kind == ALL_KEPT) {
         law_of_kept(in);
         law_of_tidied(COMMIT, in, in->list, in->list_len, "with every match kept, not what tidy writes of the list handed in");
@@ -1103,10 +1253,12 @@ static void try_input(const struct input *in)
     case_count++;
     for (int call = MEASURE; call <= CHECK_LOOSE; call++) {
         try_call(call, in);
-        if (marks_taken)
+        if (marks_taken && call != COMPARE)
             law_of_marks(call, in, &unmarked);
     }
     law_of_check_loose(in);
+    if (in->answer_len >= ANSWER_BYTES)
+        law_of_judging(in);
     if (given[COMPARE].number == ACCEPTED) {
         law_of_compare(in);
         if (marks_taken)
@@ -1122,7 +1274,7 @@ static void try_input(const struct input *in)
         law_of_held(PARTITION, in);
         law_of_tidy(PARTITION, in);
         law_of_second_partition(in);
-        law_of_same_version(PARTITION, in);
+        law_of_given_up(PARTITION, in);
         law_of_lone_matches(in);
         if (records(in) <= BRUTE_RECORDS)
             law_of_least(in);
@@ -1139,7 +1291,7 @@ static void try_input(const struct input *in)
         law_of_rebuild(PASS, in);
         law_of_held(PASS, in);
         law_of_tidy(PASS, in);
-        law_of_same_version(PASS, in);
+        law_of_given_up(PASS, in);
         law_of_pass(in);
     }
 }
@@ -1275,7 +1427,7 @@ static void draw_price(struct input *in)
     in->f = big || one_in(16) ? (one_in(2) ? 65535 : 1 + below(65535)) : small[below(8)];
 }
 
-/* ---- Second lists: of the same version, cut elsewhere, with other places of the store, other kinds and other marks ---- */
+/* ---- Second lists: the same origins, cut anew; the same bytes with other places of the store, other kinds and other marks; other bytes ---- */
 
 /* Appends so many bytes of the version, from `offset` on, as new; right after a new record they go with that. */
 static void append_second_new(struct input *in, size_t size, size_t offset)
@@ -1292,12 +1444,12 @@ static void append_second_new(struct input *in, size_t size, size_t offset)
     in->second_block_len += size;
 }
 
-static void append_second_match(struct input *in, size_t size, size_t address)
+static void append_second_match(struct input *in, size_t size, size_t address, int held)
 {
     uint8_t *r = in->second + in->second_len;
     memset(r, 0, RECORD_BYTES);
     r[0] = 1;
-    r[1] = (uint8_t)one_in(3);
+    r[1] = (uint8_t)held;
     put32(r + 4, (uint32_t)size);
     put32(r + 8, (uint32_t)address);
     in->second_len += RECORD_BYTES;
@@ -1326,6 +1478,88 @@ static size_t alike(const struct input *in, size_t offset, size_t address, size_
     return n;
 }
 
+/* Each byte from where it comes by the first list: its runs, joined, are cut anew, into as many pieces as there is room for. */
+static void cut_second(struct input *in)
+{
+    const size_t n = records(in);
+    size_t spare = n < RECORDS_MOST ? RECORDS_MOST - n : 0, offset = 0, i = 0;
+    in->second_len = in->second_block_len = 0;
+    while (i < n) {
+        const uint8_t *r = record(in->list, i);
+        uint32_t left = size_at(in, i++), address = get32(r + 8), part;
+        if (r[0] == 0) {
+            append_second_new(in, left, offset);
+            offset += left;
+            continue;
+        }
+        for (; i < n && goes_on(in, i); spare++)
+            left += size_at(in, i++);
+        for (; left > 0; left -= part, address += part, offset += part) {
+            part = left == 1 || spare == 0 || one_in(4) ? left : one_in(4) ? 1 : one_in(3) ? left - 1 : 1 + below(left - 1);
+            spare -= part < left;
+            append_second_match(in, part, address, r[1]);
+        }
+    }
+}
+
+/* Gives a match of the second list to the stored bytes of the version; new records that come to stand side by side are fused. */
+static void give_up(struct input *in, size_t at)
+{
+    const size_t len = in->second_len;
+    size_t offset = 0;
+    in->second_len = in->second_block_len = 0;
+    for (size_t i = 0; RECORD_BYTES * i < len; i++) {
+        uint8_t r[RECORD_BYTES];
+        memcpy(r, record(in->second, i), RECORD_BYTES);
+        if (r[0] == 0 || i == at)
+            append_second_new(in, get32(r + 4), offset);
+        else
+            append_second_match(in, get32(r + 4), get32(r + 8), r[1]);
+        offset += get32(r + 4);
+    }
+}
+
+/* Another address from which a short store has the bytes of a match, looked for from anywhere on; its own where there is none. */
+static uint32_t another_address(const struct input *in, const uint8_t *r)
+{
+    const uint32_t size = get32(r + 4), own = get32(r + 8);
+    if (in->store_len > ROOM || size > in->store_len || own > in->store_len - size)
+        return own;
+    const size_t places = in->store_len - size + 1, from = below(places);
+    for (size_t i = 0; i < places; i++) {
+        const size_t at = (from + i) % places;
+        if (at != own && memcmp(in->store + at, in->store + own, size) == 0)
+            return (uint32_t)at;
+    }
+    return own;
+}
+
+/* A match of the second list, often the first or the last; the number of records where there is none. */
+static size_t second_match(const struct input *in)
+{
+    const size_t n = in->second_len / RECORD_BYTES, from = n == 0 ? 0 : one_in(3) ? 0 : one_in(2) ? n - 1 : below(n);
+    for (size_t i = 0; i < n; i++)
+        if (record(in->second, (from + i) % n)[0] == 1)
+            return (from + i) % n;
+    return n;
+}
+
+/* One match of the second list gets the other mark, or is drawn from elsewhere, or is stored. The version stays. */
+static void alter_origin(struct input *in)
+{
+    const size_t at = second_match(in);
+    if (RECORD_BYTES * at == in->second_len)
+        return;
+    uint8_t *r = record(in->second, at);
+    const uint32_t way = below(3), address = way == 1 ? another_address(in, r) : get32(r + 8);
+    if (way == 2)
+        give_up(in, at);
+    else if (address != get32(r + 8))
+        put32(r + 8, address);
+    else
+        r[1] ^= 1;
+}
+
 /* At each offset a match, by the first list's one there or anywhere in the store, else new; the last record that fits takes the rest. */
 static void draw_second(struct input *in)
 {
@@ -1343,18 +1577,10 @@ static void draw_second(struct input *in)
         const size_t same = last || one_in(4) ? 0 : alike(in, offset, address, most < left ? most : left);
         size = last ? left : same > 0 ? same : most < left ? most : left;
         if (same > 0)
-            append_second_match(in, size, address);
+            append_second_match(in, size, address, one_in(3));
         else
             append_second_new(in, size, offset);
     }
-}
-
-/* The second list stores the version in one new record. */
-static void store_second(struct input *in)
-{
-    in->second_len = in->second_block_len = 0;
-    if (in->version_len > 0)
-        append_second_new(in, in->version_len, 0);
 }
 
 /* The last record of the second list loses a byte, or goes. */
@@ -1386,8 +1612,24 @@ static void alter_second(struct input *in)
         append_second_new(in, 1, in->version_len);
 }
 
-/* A whole list gets what goes with it: lengths of areas that are long enough, a k, and a second list. That one is altered in a little less than
- * half of the cases, as damage makes other versions too. */
+/* The second list: cut anew; the same but for the origin of one match, if there is one; or drawn afresh. In one case of ten it is altered then, as
+ * damage makes other versions too. */
+static void make_second(struct input *in)
+{
+    const uint32_t way = below(20);
+    if (way < 11) {
+        cut_second(in);
+    } else if (way < 15) {
+        cut_second(in);
+        alter_origin(in);
+    } else {
+        draw_second(in);
+    }
+    if (one_in(10))
+        alter_second(in);
+}
+
+/* A whole list gets what goes with it: lengths of areas that are long enough, a k, and a second list. */
 static void complete(struct input *in)
 {
     in->choice_len = records(in) + extra();
@@ -1396,9 +1638,7 @@ static void complete(struct input *in)
     in->area_len = in->version_len + extra();
     in->answer_len = ANSWER_BYTES + extra();
     in->k = records(in) == 0 ? 0 : below(records(in));
-    draw_second(in);
-    if (below(20) < 9)
-        alter_second(in);
+    make_second(in);
 }
 
 static struct input draw_input(const struct shape *shape)
@@ -1722,19 +1962,11 @@ static void law_of_neighbours(const struct input *in)
 /* Stretch by stretch of the version: new in both lists, or drawn from the same address with the same mark; and both are equally long. */
 static void law_of_origins(const struct input *in)
 {
-    const uint8_t *a = in->list, *b = area(LIST, LIBRARY), *end_a = a + in->list_len, *end_b = b + RECORD_BYTES * given[TIDY].entries;
-    uint32_t into_a = 0, into_b = 0;
-    while (a < end_a && b < end_b) {
-        const uint32_t rest_a = get32(a + 4) - into_a, rest_b = get32(b + 4) - into_b, part = rest_a < rest_b ? rest_a : rest_b;
-        if (a[0] != b[0] || a[1] != b[1] || (a[0] == 1 && get32(a + 8) + into_a != get32(b + 8) + into_b))
-            differ(TIDY, "a byte has another origin in the tidy form", in);
-        into_a = part < rest_a ? into_a + part : 0;
-        into_b = part < rest_b ? into_b + part : 0;
-        a += into_a == 0 ? RECORD_BYTES : 0;
-        b += into_b == 0 ? RECORD_BYTES : 0;
-    }
-    if (a != end_a || b != end_b)
+    const int way = first_other_origin(in->list, in->list_len, area(LIST, LIBRARY), RECORD_BYTES * given[TIDY].entries);
+    if (way == BY_LENGTH)
         differ(TIDY, "the tidy form covers more or fewer bytes than the loose list", in);
+    if (way != SAME)
+        differ(TIDY, "a byte has another origin in the tidy form", in);
 }
 
 /* What a loose list stands for (clauses 4.3.1 and 4.3.2), with this stored block; its length, and that of the block. */
@@ -1769,25 +2001,6 @@ static void law_of_block(const struct input *in)
         differ(TIDY, "the tidy form has not the records that were answered", in);
     if (rebuild_into(law_second_whole, form, in) != whole || memcmp(law_second_whole, law_whole, whole) != 0)
         differ(TIDY, "the tidy form rebuilds something else than the loose list stands for", in);
-}
-
-/* Where each byte comes from: 0 where it is new, else twice its address, its mark, and 2. */
-static uint64_t origins[2][ROOM];
-
-/* The origins by a sound list; how many bytes it covers, or one more than there is room for. */
-static size_t write_origins(uint64_t *to, const uint8_t *list, size_t list_len)
-{
-    size_t whole = 0;
-    for (const uint8_t *r = list; r < list + list_len; r += RECORD_BYTES) {
-        const uint32_t size = get32(r + 4);
-        if (size > ROOM - whole)
-            return ROOM + 1;
-        const uint64_t first = 2 * (uint64_t)get32(r + 8) + r[1] + 2;
-        for (uint32_t i = 0; i < size; i++)
-            to[whole + i] = r[0] == 0 ? 0 : first + 2 * (uint64_t)i;
-        whole += size;
-    }
-    return whole;
 }
 
 /* One field of a list, or its last record, becomes another; it may then not be sound. */
@@ -1832,8 +2045,8 @@ static void law_of_pairs(const struct input *in)
     other.list = law_list;
     if (!one_in(3))
         alter_list(&other);
-    other.list = other_bytes;
-    other.list_len = cut_list(law_list, in->list_len, other_bytes);
+    other.list = other_loose_bytes;
+    other.list_len = cut_list(law_list, in->list_len, other_loose_bytes);
     if (check_loose(other.list, other.list_len, in->store, in->store_len, answer, sizeof answer) != ACCEPTED)
         return;
     const uint32_t entries = tidy_into(law_tidy, other.list, other.list_len, in);
@@ -1930,11 +2143,12 @@ static void small_cases(void)
 /* The longest match of these cases, and the bytes of a word. */
 enum { LONGEST = 136, WORD = 8 };
 
-/* The matches that differ in one byte, by their places within a word in version and store. */
-static uint64_t differed[WORD][WORD];
+/* The matches that differ in one byte, by their places within a word in version and store; and the stored stretches, by those in the two blocks. */
+static uint64_t differed[WORD][WORD], differed_stored[WORD][WORD];
 
-/* A match after up to 7 new bytes. Where one of its bytes differs, partition, estimate, commit and pass give 8 at its place, and compare says no of the
- * list and one that stores the version; where none does, they accept it, commit by its choice, and compare says yes. */
+/* A match after up to 7 new bytes, and as many new bytes behind it. Where one byte of the match differs, partition, estimate, commit and pass give 8 at
+ * its place; where none does, they accept it, commit by its choice. Of the list and itself, cut anew, compare says no where the same one of the last
+ * new bytes differs in the second stored block, else yes. */
 static void try_stretch(uint32_t size, uint32_t differs)
 {
     const uint32_t fresh = below(WORD), letters = 1 + below(256), number = differs < size ? MISMATCH : ACCEPTED;
@@ -1944,23 +2158,30 @@ static void try_stretch(uint32_t size, uint32_t differs)
     draw_price(&in);
     if (fresh > 0)
         append_new(&in, fresh, letters);
-    if (size > 0)
+    if (size > 0) {
         append_match(&in, size, address);
-    if (differs < size)
-        in.version[fresh + differs] ^= (uint8_t)(1u << below(8));
+        append_new(&in, size, letters);
+    }
+    in.second_block = second_block_bytes + below(WORD);
     complete(&in);
-    store_second(&in);
+    cut_second(&in);
+    if (differs < size) {
+        in.version[fresh + differs] ^= (uint8_t)(1u << below(8));
+        in.second_block[fresh + differs] ^= (uint8_t)(1u << below(8));
+    }
     try_case(&in);
     for (int call = PARTITION; call <= PASS; call++)
         if ((call != COMMIT || number == MISMATCH) && (given[call].number != number || given[call].place != place))
             differ(call, "a match is judged otherwise than by its bytes", &in);
     if (given[COMPARE].number != ACCEPTED || given[COMPARE].entries != (number == ACCEPTED ? YES : NO))
-        differ(COMPARE, "a match and the stored version are judged otherwise than by their bytes", &in);
-    if (number == MISMATCH)
+        differ(COMPARE, "stored stretches are judged otherwise than by their bytes", &in);
+    if (number == MISMATCH) {
         differed[(uintptr_t)(in.version + fresh) % WORD][(uintptr_t)(in.store + address) % WORD]++;
+        differed_stored[(uintptr_t)(in.block + fresh) % WORD][(uintptr_t)(in.second_block + fresh) % WORD]++;
+    }
 }
 
-/* Matches of 0 to 136 bytes, with each byte that can differ; in every other case none does. */
+/* Stretches of 0 to 136 bytes, with each byte that can differ; in every other case none does. */
 static void stretch_cases(void)
 {
     case_kind = "stretch";
@@ -1981,13 +2202,26 @@ static void middle_cases(void)
     }
 }
 
-/* Lists of 4,096 records, whole and damaged. */
+/* The second list is the first cut anew, but for its end: its last match gets the other mark, or its stored block another last byte. */
+static void alter_end(struct input *in)
+{
+    cut_second(in);
+    uint8_t *r = in->second + in->second_len - RECORD_BYTES;
+    if (r[0] == 1)
+        r[1] ^= 1;
+    else
+        in->second_block[in->second_block_len - 1] ^= 1;
+}
+
+/* Lists of 4,096 records, whole, with a second list that differs at its end, and damaged. */
 static void full_cases(void)
 {
     case_kind = "full";
     for (int i = 0; i < FULL_CASES; i++) {
         const struct shape shape = { RECORDS_MOST, 1 + below(200), 1 + below(2000), 1 + below(4), below(6) };
         struct input in = draw_input(&shape);
+        try_case(&in);
+        alter_end(&in);
         try_case(&in);
         damage_some(&in);
         try_case(&in);
@@ -2011,6 +2245,16 @@ static void list_lengths(void)
     try_case(&in);
 }
 
+/* The second list draws its first bytes from an address that differs in one bit. */
+static void other_addresses(struct input *in)
+{
+    for (int bit = 0; bit < 28; bit++) {
+        cut_second(in);
+        put32(in->second + 8, get32(in->second + 8) ^ UINT32_C(1) << bit);
+        try_case(in);
+    }
+}
+
 /* A match at the end of a short store and of the longest; a store too long. */
 static void store_lengths(void)
 {
@@ -2026,6 +2270,7 @@ static void store_lengths(void)
         append_match(&in, edges[i].size, edges[i].address);
         complete(&in);
         try_case(&in);
+        other_addresses(&in);
     }
 }
 
@@ -2139,15 +2384,41 @@ static const char *const required[ROWS] = {
     "...xxxxx..x...xx.....",
 };
 
-static void print_differed(void)
+static void print_differed(const char *what, uint64_t counts[WORD][WORD])
 {
     uint64_t all = 0, fewest = UINT64_MAX;
     for (int place = 0; place < WORD * WORD; place++) {
-        const uint64_t here = differed[place / WORD][place % WORD];
+        const uint64_t here = counts[place / WORD][place % WORD];
         all += here;
         fewest = here < fewest ? here : fewest;
     }
-    printf("matches that differ in one byte: %" PRIu64 ", at each pair of places within a word %" PRIu64 " or more\n", all, fewest);
+    printf("%s that differ in one byte: %" PRIu64 ", at each pair of places within a word %" PRIu64 " or more\n", what, all, fewest);
+}
+
+/* The pairs with the same bytes from other places, and those with other bytes. */
+static uint64_t same_bytes_pairs(void)
+{
+    return same_bytes[AS_NEW] + same_bytes[BY_ADDRESS] + same_bytes[BY_MARK];
+}
+
+static uint64_t other_pairs(void)
+{
+    return other_blocks + beginnings + other_bytes;
+}
+
+static void print_pairs(void)
+{
+    const uint64_t all = cut_otherwise + same_bytes_pairs() + other_pairs();
+    printf("pairs of different lists that compare accepted: %" PRIu64 "; yes, cut differently: %" PRIu64 "; no, the same bytes from other places: %"
+           PRIu64 " (first new in one: %" PRIu64 ", by the address: %" PRIu64 ", by the mark: %" PRIu64 "); no, other bytes: %" PRIu64
+           " (in the blocks alone: %" PRIu64 ", one the beginning of the other: %" PRIu64 ", else: %" PRIu64 "); yes of one list with one block: %"
+           PRIu64 "\n", all, cut_otherwise, same_bytes_pairs(), same_bytes[AS_NEW], same_bytes[BY_ADDRESS], same_bytes[BY_MARK], other_pairs(),
+           other_blocks, beginnings, other_bytes, one_list);
+    const int calls[] = { PARTITION, COMMIT, PASS };
+    printf("compare of a list and what was written of it");
+    for (int i = 0; i < 3; i++)
+        printf("%s by %s yes %" PRIu64 ", no %" PRIu64, i == 0 ? ":" : ";", call_name[calls[i]], of_written[calls[i]][YES], of_written[calls[i]][NO]);
+    printf("\n");
 }
 
 static void print_choices(void)
@@ -2178,16 +2449,17 @@ static void print_table(void)
            PRIu64 " with another mark, %" PRIu64 " do not\n", matches, held_matches, flipped, going_on, going_on_parted, not_going_on);
     printf("calls on lists without their marks");
     for (int call = MEASURE; call <= CHECK_LOOSE; call++)
-        printf("%s %s %" PRIu64 " accepted, %" PRIu64 " refused", call == MEASURE ? ":" : ";", call_name[call], unmarked_calls[call][0],
-               unmarked_calls[call][1]);
+        if (call != COMPARE)
+            printf("%s %s %" PRIu64 " accepted, %" PRIu64 " refused", call == MEASURE ? ":" : ";", call_name[call], unmarked_calls[call][0],
+                   unmarked_calls[call][1]);
     printf("\n");
-    printf("compare: yes of two different lists %" PRIu64 ", of one and the same %" PRIu64 ", no %" PRIu64 "\n", yes_of_two_lists,
-           yes_of_one_list, no);
+    print_pairs();
     printf("loose lists: with new records side by side %" PRIu64 ", with matches to join %" PRIu64 ", too long for an area that their tidy form"
            " fits %" PRIu64 "; pairs with the same origins %" PRIu64 ", with others %" PRIu64 "\n", side_by_side, unjoined, short_for_loose,
            same_origins, other_origins);
     print_choices();
-    print_differed();
+    print_differed("matches", differed);
+    print_differed("stored stretches", differed_stored);
     printf("partitions accepted");
     for (int i = 0; i < FACTORS; i++)
         printf("%s %" PRIu64 " at F %" PRIu32, i == 0 ? ":" : ",", factors[i].accepted, factors[i].f);
@@ -2237,11 +2509,37 @@ static int no_third(uint64_t part, uint64_t all, const char *what)
 
 static int uneven_counts(void)
 {
-    return uneven(yes_of_two_lists, no, "yes of two different lists and no are not given about as often")
-        + uneven(same_origins, other_origins, "two loose lists have not the same origins about as often as they have")
+    return uneven(same_origins, other_origins, "two loose lists have not the same origins about as often as they have")
         + uneven(going_on, not_going_on, "neighbouring matches do not go on in the store about as often as they do")
         + no_third(held_matches, matches, "not about a third of the matches are held")
         + no_third(going_on_parted, going_on, "not about a third of the matches that go on have another mark");
+}
+
+/* Whether a count, of pairs or of what was written, is less than its share; 0 of 0 is too. */
+static int too_few(uint64_t part, uint64_t share, const char *what)
+{
+    if (part > 0 && part >= share)
+        return 0;
+    printf("differential: %s\n", what);
+    return 1;
+}
+
+/* How many kinds of pairs are missing, or are less than a third of the pairs of different lists. */
+static int missing_pairs(void)
+{
+    const uint64_t third = (cut_otherwise + same_bytes_pairs() + other_pairs() + 2) / 3;
+    int count = too_few(cut_otherwise, third, "not a third of the pairs has the same bytes from the same places, cut differently")
+        + too_few(same_bytes_pairs(), third, "not a third of the pairs has the same bytes from other places")
+        + too_few(same_bytes[AS_NEW], 1, "no pair has the same bytes, new in one list and drawn in the other")
+        + too_few(same_bytes[BY_ADDRESS], 1, "no pair has the same bytes from other addresses")
+        + too_few(same_bytes[BY_MARK], 1, "no pair has the same bytes from the same addresses with other marks")
+        + too_few(other_blocks, 1, "no pair differs in its stored blocks alone") + too_few(beginnings, 1, "no list was compared with its beginning")
+        + too_few(other_bytes, 1, "no pair has other bytes from other places") + too_few(one_list, 1, "no list was compared with itself");
+    const int calls[] = { PARTITION, COMMIT, PASS };
+    for (int i = 0; i < 3; i++)
+        for (int same = NO; same <= YES; same++)
+            count += too_few(of_written[calls[i]][same], 1, same ? "no written list keeps each match" : "no written list gives a match up");
+    return count;
 }
 
 /* How many calls were never made without the marks, accepted or refused; and whether no mark was flipped, or none ever bound a short list. */
@@ -2250,7 +2548,7 @@ static int missing_marks(void)
     int count = 0;
     for (int call = MEASURE; call <= CHECK_LOOSE; call++)
         for (int refused = 0; refused < 2; refused++)
-            if (unmarked_calls[call][refused] == 0) {
+            if (call != COMPARE && unmarked_calls[call][refused] == 0) {
                 printf("differential: %s was never %s without the marks\n", call_name[call], refused ? "refused" : "accepted");
                 count++;
             }
@@ -2287,13 +2585,13 @@ static int missing_loose(void)
     return 1;
 }
 
-/* How many pairs of places within a word had no match that differs. */
+/* How many pairs of places within a word had no match, or no stored stretch, that differs. */
 static int missing_places(void)
 {
     int count = 0;
     for (int place = 0; place < WORD * WORD; place++)
-        if (differed[place / WORD][place % WORD] == 0) {
-            printf("differential: no match differed at %d in the version and %d in the store, within a word\n", place / WORD, place % WORD);
+        if (differed[place / WORD][place % WORD] == 0 || differed_stored[place / WORD][place % WORD] == 0) {
+            printf("differential: no match, or no stored stretch, differed at %d and %d within a word\n", place / WORD, place % WORD);
             count++;
         }
     return count;
@@ -2346,7 +2644,8 @@ int main(int argc, char **argv)
         puts("differential: the long store was written to");
         return 1;
     }
-    if (missing_prices() + missing_columns() + missing_places() + uneven_counts() + missing_marks() + missing_choices() + missing_loose() > 0)
+    if (missing_prices() + missing_columns() + missing_places() + uneven_counts() + missing_pairs() + missing_marks() + missing_choices()
+        + missing_loose() > 0)
         return 1;
     printf("differential: %" PRIu64 " calls compared, 0 differences\n", calls);
     return 0;

@@ -5,8 +5,9 @@
  * OLD is the store and NEW the version; EN, EM and F are the price, 12, 16 and 1024 where they are not given: a new entry has
  * no address, which spares 4 bytes, and F is in 256ths of a disk byte. It finds matches, as a loose list, and tidies that. It measures the tidy list,
  * hands it to pass for comparison, and estimates what the least list would come to. Only then are areas taken for that list and its stored block:
- * the estimate's choice is committed, NEW rebuilt from what was written, and the two lists written are compared. Costs are printed in disk bytes.
- * Nothing goes to disk.
+ * the estimate's choice is committed, and NEW rebuilt from what was written. Last, the tidy list is compared with what a commitment writes that keeps
+ * every match, which draws each byte from the same place, and with the deposited list, which does so where no match was given up. Costs are printed
+ * in disk bytes. Nothing goes to disk.
  *
  * In order: errors; files; answers; the list; the finder of matches; the calls; the report. Exit 0 where NEW came back, else 1 and one line.
  */
@@ -299,14 +300,28 @@ static struct estimated estimate_of(const struct deposit *d)
     return e;
 }
 
-/* Commits the estimate's choice, which comes to what was estimated. */
-static struct written commit_estimate(const struct deposit *d, const struct estimated *e)
+static struct written commit_choice(const struct deposit *d, const uint8_t *choice)
 {
     uint8_t area[ANSWER_BYTES];
     struct written w = take_areas(d);
     commit(d->en, d->em, d->f, d->found.bytes, RECORD_BYTES * d->found.records, d->version.at, d->version.length, d->store.at, d->store.length,
-           e->choice, d->found.records, w.list.at, w.list.length, w.block.at, w.block.length, area, sizeof area);
-    w = answered(w, answer_of("commit", area));
+           choice, d->found.records, w.list.at, w.list.length, w.block.at, w.block.length, area, sizeof area);
+    return answered(w, answer_of("commit", area));
+}
+
+/* The list found, with its stored block: 1 for each new record, 0 for each match. */
+static struct written commit_all_kept(const struct deposit *d)
+{
+    uint8_t choice[RECORDS_MOST];
+    for (size_t i = 0; i < d->found.records; i++)
+        choice[i] = d->found.bytes[RECORD_BYTES * i] == NEW;
+    return commit_choice(d, choice);
+}
+
+/* Commits the estimate's choice, which comes to what was estimated. */
+static struct written commit_estimate(const struct deposit *d, const struct estimated *e)
+{
+    const struct written w = commit_choice(d, e->choice);
     if (w.answer.cost != e->answer.cost || w.answer.entries != e->answer.entries || w.answer.stored != e->answer.stored)
         fail("what was committed is not what was estimated");
     return w;
@@ -324,13 +339,22 @@ static int rebuilds(const struct deposit *d, const struct written *w)
     return same;
 }
 
-/* Whether two written lists, each with its stored block, give the same version; nothing is rebuilt for it. */
-static int same_version(const struct deposit *d, const struct written *a, const struct written *b)
+/* Whether the list found, with its stored block, and a written one give the same bytes from the same places; nothing is rebuilt for it. */
+static int same_origins(const struct deposit *d, struct bytes block, const struct written *w)
 {
     uint8_t area[ANSWER_BYTES];
-    compare(a->list.at, a->list.length, b->list.at, b->list.length, a->block.at, a->block.length, b->block.at, b->block.length, d->store.at,
-            d->store.length, area, sizeof area);
+    compare(d->found.bytes, RECORD_BYTES * d->found.records, w->list.at, w->list.length, block.at, block.length, w->block.at, w->block.length,
+            d->store.at, d->store.length, area, sizeof area);
     return answer_of("compare", area).entries == 1;
+}
+
+/* How many matches of the list found a choice gives up. */
+static size_t given_up(const struct deposit *d, const uint8_t *choice)
+{
+    size_t count = 0;
+    for (size_t i = 0; i < d->found.records; i++)
+        count += d->found.bytes[RECORD_BYTES * i] == MATCH && choice[i] == 1;
+    return count;
 }
 
 /* ---- The report ---- */
@@ -366,6 +390,20 @@ static void print_estimate(const struct deposit *d, struct answer found, struct 
     print_saved("the pass", passed.cost, least.cost);
 }
 
+/* The bytes of a match that was given up are new in the deposited list: that is another origin. */
+static void compare_lists(const struct deposit *d, const struct estimated *least, const struct written *deposited)
+{
+    const struct written kept = commit_all_kept(d);
+    const size_t up = given_up(d, least->choice);
+    if (!same_origins(d, kept.block, &kept))
+        fail("every match is kept, and compare says that a byte comes from elsewhere");
+    printf("every match kept, compared with the list found: the same bytes from the same places\n");
+    if (same_origins(d, kept.block, deposited) != (up == 0))
+        fail("matches given up: %zu, and compare says otherwise", up);
+    printf("the deposited list, compared with the list found: %s; matches given up: %zu\n", up == 0 ? "so too" : "not from the same places", up);
+    free(kept.list.at), free(kept.block.at);
+}
+
 static void make_deposit(const struct deposit *d, const char *name)
 {
     const struct answer found = measure_found(d);
@@ -377,9 +415,7 @@ static void make_deposit(const struct deposit *d, const char *name)
     if (!rebuilds(d, &deposited))
         fail("what was rebuilt differs from %s", name);
     printf("rebuilt from the list, the stored bytes and the store: the same as %s\n", name);
-    if (!same_version(d, &passed, &deposited))
-        fail("the lists of pass and commit give different versions");
-    printf("compared with the pass's list, which has %" PRIu32 " records: the same version\n", passed.answer.entries);
+    compare_lists(d, &least, &deposited);
     free(passed.list.at), free(passed.block.at);
     free(deposited.list.at), free(deposited.block.at);
 }

@@ -3,7 +3,7 @@
  * In order: limits; reading and writing of fields; the checks of the inputs; the cost; measure, rebuild and check; compare; runs; the
  * least choice; the pass; what a choice comes to; partition and pass; estimate and commit; loose lists. It shares no line with the library and takes
  * nothing from its header. Where the library prices each record by the one before it, this looks for the runs first, and chooses for them. Where it
- * tidies record by record, this first finds the records that stay.
+ * tidies record by record, this first finds the records that stay. Compare joins no runs: it goes through both lists, stretch by stretch.
  */
 #include "reference.h"
 
@@ -274,39 +274,51 @@ uint32_t ref_check(const uint8_t *list, size_t list_len,
 
 /* ---- Compare ---- */
 
-/* A version as it is read: what is left of the record begun, the records after it, and the stored bytes after it. */
+/* A version as it is read: the record begun, how many of its bytes were read, and the stored bytes that were not. */
 struct reader {
-    const uint8_t *bytes;
-    uint32_t left;
-    const uint8_t *records, *block;
+    const uint8_t *record;
+    uint32_t into;
+    const uint8_t *block;
 };
 
-/* Begins the next record. */
-static void begin_record(struct reader *r, const uint8_t *store)
+/* The bytes that are left of the record begun. */
+static uint32_t rest_of(const struct reader *r)
 {
-    r->left = size_of(r->records, 0);
-    if (r->records[0] == NEW) {
-        r->bytes = r->block;
-        r->block += r->left;
-    } else {
-        r->bytes = store + address_of(r->records, 0);
-    }
-    r->records += RECORD;
+    return get32(r->record + 4) - r->into;
 }
 
-/* Whether two versions of so many bytes are the same: as many bytes at a time as neither leaves its record. */
-static int same_version(struct reader a, struct reader b, uint32_t whole, const uint8_t *store)
+/* Whether two versions have the same next bytes, so many, from the same places; neither leaves its record with them. New bytes are compared. What is
+ * drawn from one address of the one store is the same. */
+static int same_next(const struct reader *a, const struct reader *b, uint32_t part)
+{
+    if (a->record[0] != b->record[0])
+        return 0;
+    if (a->record[0] == NEW)
+        return memcmp(a->block, b->block, part) == 0;
+    return a->record[1] == b->record[1] && get32(a->record + 8) + a->into == get32(b->record + 8) + b->into;
+}
+
+/* Reads so many bytes of the record begun; where it ends with them, the next one is begun. */
+static void read_on(struct reader *r, uint32_t part)
+{
+    if (r->record[0] == NEW)
+        r->block += part;
+    r->into += part;
+    if (rest_of(r) == 0) {
+        r->record += RECORD;
+        r->into = 0;
+    }
+}
+
+/* Whether two versions of so many bytes are the same, each byte from the same place: as many bytes at a time as neither leaves its record. */
+static int same_version(struct reader a, struct reader b, uint32_t whole)
 {
     while (whole > 0) {
-        if (a.left == 0)
-            begin_record(&a, store);
-        if (b.left == 0)
-            begin_record(&b, store);
-        const uint32_t part = a.left < b.left ? a.left : b.left;
-        if (memcmp(a.bytes, b.bytes, part) != 0)
+        const uint32_t rest_a = rest_of(&a), rest_b = rest_of(&b), part = rest_a < rest_b ? rest_a : rest_b;
+        if (!same_next(&a, &b, part))
             return 0;
-        a.bytes += part, a.left -= part;
-        b.bytes += part, b.left -= part;
+        read_on(&a, part);
+        read_on(&b, part);
         whole -= part;
     }
     return 1;
@@ -328,8 +340,8 @@ uint32_t ref_compare(const uint8_t *first, size_t first_len,
     if (a.number == 0)
         a = walk_with_block(&other, second_block_len);
     if (a.number == 0) {
-        const struct reader x = { .records = first, .block = first_block }, y = { .records = second, .block = second_block };
-        const int same = whole == a.whole && same_version(x, y, whole, store);
+        const struct reader x = { first, 0, first_block }, y = { second, 0, second_block };
+        const int same = whole == a.whole && same_version(x, y, whole);
         a = refused(0, 0);
         a.entries = (uint32_t)same;
     }

@@ -29,7 +29,7 @@ uint32_t ref_check(const uint8_t *list, size_t list_len,
                    uint32_t k,
                    uint8_t *answer, size_t answer_len);
 
-/* Whether two lists, with their stored blocks and one store, give the same version. */
+/* Whether two lists, with their stored blocks and one store, give the same version, each byte from the same place. */
 uint32_t ref_compare(const uint8_t *first, size_t first_len,
                      const uint8_t *second, size_t second_len,
                      const uint8_t *first_block, size_t first_block_len,

@@ -1,5 +1,4 @@
-pub mod Prefix
-pub mod Cursors
 pub mod Comparing
+pub mod Drawing
 pub mod Answering
 pub mod WorkedHolds

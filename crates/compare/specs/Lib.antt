@@ -1,3 +1,3 @@
 pub mod Compare
-pub mod Cursor
+pub mod Alike
 pub mod Worked

@@ -30,18 +30,25 @@ table =
     -- two empty lists; an empty one and one byte
     worked [] [] [] [] saysYes
     ∷ worked [] [] (Match 1 (freeAt 0) ∷ []) [] saysNo
-    -- the same bytes, cut differently; from different places of the store; stored and drawn
-    ∷ worked (New 2 ∷ Match 3 (freeAt 2) ∷ []) (65 ∷ 66 ∷ []) (Match 3 (freeAt 0) ∷ New 2 ∷ []) (66 ∷ 67 ∷ []) saysYes
-    ∷ worked (Match 2 (freeAt 0) ∷ []) [] (Match 2 (freeAt 2) ∷ []) [] saysYes
-    ∷ worked (New 5 ∷ []) (65 ∷ 66 ∷ 65 ∷ 66 ∷ 67 ∷ []) (Match 5 (freeAt 0) ∷ []) [] saysYes
-    -- a mark has no meaning
-    ∷ worked (Match 2 (heldAt 0) ∷ Match 3 (freeAt 2) ∷ []) [] (Match 2 (freeAt 2) ∷ Match 3 (heldAt 2) ∷ []) [] saysYes
-    -- a difference in the last byte, stored and drawn
+    -- cut differently: two matches and the run that they are; cuts that cross each other; a mark that changes at the cut
+    ∷ worked (New 2 ∷ Match 3 (freeAt 2) ∷ []) (65 ∷ 66 ∷ []) (New 2 ∷ Match 1 (freeAt 2) ∷ Match 2 (freeAt 3) ∷ []) (65 ∷ 66 ∷ []) saysYes
+    ∷ worked (Match 1 (heldAt 0) ∷ Match 4 (heldAt 1) ∷ []) [] (Match 3 (heldAt 0) ∷ Match 1 (heldAt 3) ∷ Match 1 (heldAt 4) ∷ []) [] saysYes
+    ∷ worked (Match 2 (heldAt 0) ∷ Match 3 (freeAt 2) ∷ []) [] (Match 3 (heldAt 0) ∷ Match 2 (freeAt 3) ∷ []) [] saysNo
+    -- the same bytes from different places of the store; with other marks, of all bytes and of the last
+    ∷ worked (Match 2 (freeAt 0) ∷ []) [] (Match 2 (freeAt 2) ∷ []) [] saysNo
+    ∷ worked (Match 2 (heldAt 0) ∷ Match 3 (freeAt 2) ∷ []) [] (Match 2 (freeAt 0) ∷ Match 3 (freeAt 2) ∷ []) [] saysNo
+    ∷ worked (Match 5 (freeAt 0) ∷ []) [] (Match 4 (freeAt 0) ∷ Match 1 (heldAt 4) ∷ []) [] saysNo
+    -- the same bytes, new in one and drawn in the other: all of them; and with equal stored blocks
+    ∷ worked (New 5 ∷ []) (65 ∷ 66 ∷ 65 ∷ 66 ∷ 67 ∷ []) (Match 5 (freeAt 0) ∷ []) [] saysNo
+    ∷ worked (New 2 ∷ Match 3 (freeAt 2) ∷ []) (65 ∷ 66 ∷ []) (Match 3 (freeAt 0) ∷ New 2 ∷ []) (66 ∷ 67 ∷ []) saysNo
+    ∷ worked (New 2 ∷ Match 2 (freeAt 0) ∷ []) (65 ∷ 66 ∷ []) (Match 2 (freeAt 0) ∷ New 2 ∷ []) (65 ∷ 66 ∷ []) saysNo
+    -- the same origins, and a difference in the last stored byte; other bytes drawn
     ∷ worked (New 2 ∷ []) (65 ∷ 66 ∷ []) (New 2 ∷ []) (65 ∷ 67 ∷ []) saysNo
     ∷ worked (Match 1 (freeAt 0) ∷ Match 1 (freeAt 1) ∷ []) [] (Match 1 (freeAt 0) ∷ Match 1 (freeAt 4) ∷ []) [] saysNo
-    -- one is a prefix of the other
+    -- one is a prefix of the other, drawn and stored
     ∷ worked (Match 4 (freeAt 0) ∷ []) [] (Match 5 (freeAt 0) ∷ []) [] saysNo
     ∷ worked (Match 5 (freeAt 0) ∷ []) [] (Match 4 (freeAt 0) ∷ []) [] saysNo
+    ∷ worked (New 1 ∷ []) (65 ∷ []) (New 1 ∷ Match 1 (freeAt 0) ∷ []) (65 ∷ []) saysNo
     -- the first list's refusal stands, the second list's being 4 at 0; else the second list's, with its own place
     ∷ worked (Match 2 (freeAt 0) ∷ Match 3 (freeAt 3) ∷ []) [] (New 0 ∷ []) [] (Refused (refuse OutsideStore 1))
     ∷ worked (New 1 ∷ []) [] (New 0 ∷ []) [] (Refused (refuse BlockLength 0))

@@ -186,12 +186,12 @@ pub extern "C" fn check(list: &[u8], block: &[u8], store: &[u8], k: u32, answer:
 
 // Compare.
 #[no_mangle]
-pub extern "C" fn compare<'a>(
+pub extern "C" fn compare(
     first: &[u8],
     second: &[u8],
-    first_block: &'a [u8],
-    second_block: &'a [u8],
-    store: &'a [u8],
+    first_block: &[u8],
+    second_block: &[u8],
+    store: &[u8],
     answer: &mut [u8],
 ) -> u32
     ensures answered { λ r. ⌜ Answered (compared (now (first .entry)) (now (second .entry)) (now («first_block» .entry)) (now («second_block» .entry)) (now (store .entry))) (now (answer .entry)) r (now (answer .exit)) ⌝ }

@@ -5,8 +5,8 @@ pub mod Giving
 pub mod ScalingHolds
 pub mod FormerHolds
 pub mod LoneHolds
-pub mod ComparingHolds
 pub mod NoRunsHolds
 pub mod MarksHolds
 pub mod SplitHolds
 pub mod TidyingHolds
+pub mod ComparingHolds

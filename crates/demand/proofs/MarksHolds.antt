@@ -114,8 +114,6 @@ marks-unread =
       in-check = λ list block st k. rw (check-unread list block st k);
       in-show = λ list block st k. rw (check-unread list (now block) (now st) k, unread (λ l. partAt l k) (part-bare k) list);
       in-check-loose = λ list st. rw (fits-unmarked list, walk-unmarked scope.Loose [] st list);
-      in-first = λ first second block₁ block₂ st. rw (inputs-unread first block₁ st, unread (λ l. rebuilt l block₁ st) (rebuilt-bare block₁ st) first);
-      in-second = λ first second block₁ block₂ st. rw (inputs-unread second block₂ st, unread (λ l. rebuilt l block₂ st) (rebuilt-bare block₂ st) second);
     }
 
 -- ---- held matches in partition and pass

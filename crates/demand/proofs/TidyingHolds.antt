@@ -27,6 +27,7 @@ use Rattle.format.specs.Origins.{Origin, fresh, origins}
 use Rattle.format.proofs.Rulings.{stop-fine, stop-of-refused, fine-of-accepts}
 use Rattle.format.proofs.Encoding.{records-encode, length-encode}
 use Rattle.format.proofs.Rebuilding.{inside-agrees}
+use Rattle.format.proofs.Tracing.{length-origins, origins-alike}
 use Rattle.walk.specs.declared.Scope.the-variants as scope
 use Rattle.walk.specs.Checks.{checks, walkRuling}
 use Rattle.walk.proofs.Loosened.{Loosened, loosened, loosened-fine, loosened-stop, NotFive, not-five-then, not-five-need, not-five-walk, loose-of-version}
@@ -35,12 +36,12 @@ use Rattle.price.specs.Price.{ratesOf}
 use Rattle.area.specs.Area.{over}
 use Rattle.area.proofs.Filling.{front, front-room}
 use Rattle.show.specs.Check.{inputsRuling, checked}
-use Rattle.show.proofs.Accepting.{inputs-written}
+use Rattle.show.proofs.Accepting.{inputs-written, stop-of-check}
 use Rattle.rebuild.specs.Rebuild.{Rebuilt}
 use Rattle.rebuild.proofs.Accepting.{rebuild-fine}
 use Rattle.join.specs.Join.{tidy, Settled}
 use Rattle.join.proofs.Joining.{length-tidy, whole-tidy, stored-tidy, apart-tidy, rebuilt-tidy, settled-tidy, tidy-settled}
-use Rattle.join.proofs.Tracing.{length-origins, origins-alike, origins-tidy, tidy-exactly}
+use Rattle.join.proofs.Tracing.{origins-tidy, tidy-exactly}
 use Rattle.choice.specs.Choice.{Bit, bitBytes, IsChoice, chosen, listOf, keepAll}
 use Rattle.choice.proofs.Least.{least-fits, keepAll-list, keepAll-is-choice}
 use Rattle.admit.specs.Admit.{partitionRuling}
@@ -55,7 +56,6 @@ use Rattle.demand.specs.Demand.{Call, Rebuilding, writtenList}
 use Rattle.demand.specs.Split.{Commits}
 use Rattle.demand.specs.Tidying.{Tidying, Tidies, tidyList, Writes, SameOrigins, TidyingLaws, TwoCalls}
 use Rattle.demand.proofs.WrittenList.{well-formed-written, whole-written, count-written}
-use Rattle.demand.proofs.ComparingHolds.{stop-of-check}
 use Rattle.demand.proofs.SplitHolds.{sound, given, decides}
 
 -- ---- check_loose beside check
@@ -129,7 +129,7 @@ module _ {list st : List ℕ} {x : Tidying} (t : Tidies list st x) (accepted : A
   entries-told : figuresIn (x .answer) .entries ≡ length (tidyForm list)
   entries-told = rw fine at (ap (λ (a : Answer). figuresIn a .entries) (t .answered))
 
-  list-told : tidyList x ≡ encode (tidyForm list)
+  pub list-told : tidyList x ≡ encode (tidyForm list)
   list-told =
       let n : 12 * figuresIn (x .answer) .entries ≡ length (encode (tidyForm list)) = omega (arith, entries-told, length-encode (tidyForm list)) in
       rw (rw fine at (t .area-after)) (front (12 * figuresIn (x .answer) .entries) (encode (tidyForm list)) (x .before) n)
@@ -150,7 +150,7 @@ module _ {list st : List ℕ} {x : Tidying} (t : Tidies list st x) (accepted : A
         let s = form-sound in
         record { sized = s .sized; apart = apart-tidy (recordsOf list); inside = s .inside; whole-most = s .whole-most; block-fits = h ∙ sym (stored-tidy (recordsOf list)) }
 
-    inputs-form : inputsRuling (encode (tidyForm list)) block st ≡ Fine
+    pub inputs-form : inputsRuling (encode (tidyForm list)) block st ≡ Fine
     inputs-form = inputs-written (tidyForm list) block st form-few (form-sound .store-most) form-readable
 
     checked-form : (k : ℕ) → k < figuresIn (x .answer) .entries → checked (tidyList x) block st k ≡ Accepted (lengthOnly 0)
@@ -172,11 +172,11 @@ module _ {list st : List ℕ} {x : Tidying} (t : Tidies list st x) (accepted : A
 eq-of-encode : (l k : List Record) → encode l ≡ encode k → l ≡ k
 eq-of-encode l k e = sym (records-encode l) ∙ ap recordsOf e ∙ records-encode k
 
-same-of-origins : (l k : List Record) → origins l ≡ origins k → SameOrigins l k
+pub same-of-origins : (l k : List Record) → origins l ≡ origins k → SameOrigins l k
 same-of-origins l k e =
     record { equally-many = sym (length-origins l) ∙ ap length e ∙ length-origins k; each-byte = λ i lt. ap (λ (o : List Origin). getD o i fresh) e }
 
-one-form : (list₁ list₂ st₁ st₂ : List ℕ) (x y : Tidying) → Tidies list₁ st₁ x → Accepts (x .answer) → Tidies list₂ st₂ y → Accepts (y .answer)
+pub one-form : (list₁ list₂ st₁ st₂ : List ℕ) (x y : Tidying) → Tidies list₁ st₁ x → Accepts (x .answer) → Tidies list₂ st₂ y → Accepts (y .answer)
     → (tidyList x ≡ tidyList y → SameOrigins (recordsOf list₁) (recordsOf list₂)) × (SameOrigins (recordsOf list₁) (recordsOf list₂) → tidyList x ≡ tidyList y)
 one-form list₁ list₂ st₁ st₂ x y t a u b =
     let exactly = tidy-exactly (recordsOf list₁) (recordsOf list₂) (passed t a .sound .sized) (passed u b .sound .sized) in (
@@ -194,7 +194,7 @@ module _ {q : Ruling} {p : Price} {list v st : List ℕ} {c : List Bit} {looks i
   entries-are : figuresIn (x .answer) .entries ≡ length l
   entries-are = ap (λ (r : Answer). figuresIn r .entries) (decided-answer made fine)
 
-  list-is : writtenList x ≡ encode l
+  pub list-is : writtenList x ≡ encode l
   list-is = list-handed-on made fine (ap (λ (n : ℕ). 12 * n) entries-are)
 
   -- tidy writes it back
@@ -213,7 +213,7 @@ module _ {q : Ruling} {p : Price} {list v st : List ℕ} {c : List Bit} {looks i
       writes-form l t admitted (sym e) list-is entries-are
 
 -- admitted inputs of partition and pass
-sound-of-decided : {p : Price} {list v st : List ℕ} {c : List Bit} {looks : ℕ} {x : Call} → Decided (partitionRuling p list v st (x .before)) (ratesOf p) list v c looks (x .before) (x .answer) (x .after)
+pub sound-of-decided : {p : Price} {list v st : List ℕ} {c : List Bit} {looks : ℕ} {x : Call} → Decided (partitionRuling p list v st (x .before)) (ratesOf p) list v c looks (x .before) (x .answer) (x .after)
     → Accepts (x .answer) → Sound p list v st (length (x .before .choice)) (length (x .before .list)) (length (x .before .block))
 sound-of-decided {p} {list} {v} {st} {x = x} made a = sound-of-fine p list v st (length (x .before .choice)) (length (x .before .list)) (length (x .before .block)) (decided-fine made a)
 

@@ -4,8 +4,8 @@ pub mod Gives
 pub mod Scaling
 pub mod Former
 pub mod Lone
-pub mod Comparing
 pub mod NoRuns
 pub mod Marks
 pub mod Split
 pub mod Tidying
+pub mod Comparing

@@ -1,5 +1,5 @@
 -- Section 8.4, matches that must be held: what partition and pass make of held matches, by their contracts; and that measure, rebuild, check,
--- show, compare and check_loose give the mark no meaning.
+-- show and check_loose give the mark no meaning.
 -- Assumes nothing.
 use Prim.Native.Nat.{ℕ}
 use mathlib.Core.Path.{_≡_}
@@ -18,7 +18,6 @@ use Rattle.measure.specs.Measure.{measured}
 use Rattle.show.specs.Check.{checked}
 use Rattle.show.specs.Show.{shown}
 use Rattle.rebuild.specs.Rebuild.{rebuildAnswer, rebuildArea}
-use Rattle.compare.specs.Compare.{compared}
 use Rattle.loose.specs.Loose.{looseChecked}
 use Rattle.choice.specs.Choice.{Bit, listOf}
 use Rattle.choice.specs.Held.{KeepsHeld}
@@ -57,6 +56,3 @@ pub record MarksUnread : Type 0 where
   pub in-check : (list block st : List ℕ) (k : ℕ) → checked (unmarked list) block st k ≡ checked list block st k
   pub in-show : (list : List ℕ) (block st : RefT (List ℕ)) (k : ℕ) → shown (unmarked list) block st k ≡ shown list block st k
   pub in-check-loose : (list st : List ℕ) → looseChecked (unmarked list) st ≡ looseChecked list st
-  -- of either list
-  pub in-first : (first second block₁ block₂ st : List ℕ) → compared (unmarked first) second block₁ block₂ st ≡ compared first second block₁ block₂ st
-  pub in-second : (first second block₁ block₂ st : List ℕ) → compared first (unmarked second) block₁ block₂ st ≡ compared first second block₁ block₂ st

@@ -3,3 +3,4 @@ pub mod Rows
 pub mod Rebuilding
 pub mod Encoding
 pub mod Unmarking
+pub mod Tracing

@@ -1,39 +1,23 @@
--- There is an origin for each byte. Joining keeps where each byte comes from, and so what its mark binds. The tidy form of a list is told by the origins
--- of its bytes, and tells them.
+-- Joining keeps where each byte comes from, and so what its mark binds. The tidy form of a list is told by the origins of its bytes, and tells them.
 -- Assumes nothing.
-use Prim.Native.Nat.{ℕ, zero, suc, _+_, _≤_, _<_}
+use Prim.Native.Nat.{ℕ, zero, suc, _+_, _≤_}
 use native.Mathlib.Omega.{arith}
 use mathlib.Core.Path.{_≡_, refl, sym, _∙_, ap, ap₂}
 use mathlib.Core.Bool.{Bool, true, false, cond}
 use mathlib.Core.List.{List, [], _∷_, _++_, append-assoc, map}
-use lib.ListN.{length, replicate, length-append, length-replicate, replicate-append-replicate}
-use lib.Seq.{ext-getD}
+use lib.ListN.{replicate, replicate-append-replicate}
 use borrow.Author.Tests.{eq-eqb}
 use Rattle.format.specs.declared.Source.{Source}
 use Rattle.format.specs.declared.Record.{Record}
 use Rattle.format.specs.declared.Record.the-variants.{New, Match}
 use Rattle.format.specs.Record.{from}
-use Rattle.format.specs.Meaning.{sizeOf, whole}
+use Rattle.format.specs.Meaning.{sizeOf}
 use Rattle.format.specs.WellFormed.{Sized}
-use Rattle.format.specs.Origins.{Origin, fresh, drawn, drawnAt, originsOf, origins, originAt, singles}
+use Rattle.format.specs.Origins.{Origin, fresh, drawn, drawnAt, originsOf, origins, singles}
 use Rattle.format.specs.Marks.{bondOf, bonds}
-use Rattle.format.proofs.Rows.{length-from, from-add}
+use Rattle.format.proofs.Rows.{from-add}
 use Rattle.join.specs.Join.{joins, goesOn, grown, join, tidy}
 use Rattle.join.proofs.Joining.{goes-on, join-on, settled-tidy, tidy-settled}
-
--- ---- as many origins as bytes
-
-length-origin : (r : Record) → length (originsOf r) ≡ sizeOf r
-length-origin (New s) = length-replicate s fresh
-length-origin (Match s a) = length-from (drawnAt (a .held)) (a .address) s
-
-pub length-origins : (l : List Record) → length (origins l) ≡ whole l
-length-origins [] = refl
-length-origins (r ∷ l) = length-append (originsOf r) (origins l) ∙ ap₂ (λ (m n : ℕ). m + n) (length-origin r) (length-origins l)
-
--- two lists that cover equally many bytes, each of one origin in both
-pub origins-alike : (l k : List Record) → whole l ≡ whole k → ((i : ℕ) → i < whole l → originAt l i ≡ originAt k i) → origins l ≡ origins k
-origins-alike l k e h = ext-getD fresh (origins l) (origins k) (length-origins l ∙ e ∙ sym (length-origins k)) (λ i lt. h i (omega (arith, length-origins l)))
 
 -- ---- joining keeps the origin of each byte
 

@@ -3,17 +3,18 @@
 use Prim.Native.Nat.{ℕ, _≤_, _<_}
 use native.Mathlib.Omega.{arith}
 use mathlib.Core.Path.{_≡_, sym, _∙_, ap}
-use mathlib.Core.Bool.{true, false}
+use mathlib.Core.Bool.{Bool, true, false}
 use mathlib.Core.List.{List, []}
 use lib.Dec.{eqb, leb, ltb}
 use lib.ListN.{length}
-use borrow.Author.Tests.{le-leb, lt-leb, eq-eqb, ne-eqb, eqb-true, ltb-true}
+use borrow.Author.Tests.{le-leb, lt-leb, eq-eqb, ne-eqb, eqb-true, leb-true, ltb-true}
 use Rattle.format.specs.declared.Fault.the-variants.{TooLong, ListLength, BlockLength, NoSuchRecord}
 use Rattle.format.specs.declared.Refusal.{Refusal}
 use Rattle.format.specs.declared.Ruling.{Ruling}
 use Rattle.format.specs.declared.Ruling.the-variants.{Fine, Stop}
+use Rattle.format.specs.declared.Answer.the-variants.{Refused}
 use Rattle.format.specs.Limits.{storeMost, versionMost}
-use Rattle.format.specs.Refusal.{need, refuse, _then_}
+use Rattle.format.specs.Refusal.{need, refuse, _then_, answer, lengthOnly}
 use Rattle.format.specs.declared.Record.{Record}
 use Rattle.format.specs.Record.{listFits, rowsOf, recordsOf, encode}
 use Rattle.format.specs.Meaning.{stored}
@@ -46,6 +47,11 @@ module _ (list block st : List ℕ) where
         pub inputs-fine : length block ≡ stored (recordsOf list) → inputsRuling list block st ≡ Fine
         inputs-fine f = rw (le-leb (length st) storeMost h, k, e, eq-eqb (length block) (stored (recordsOf list)) f)
 
+  pub store-of-inputs : inputsRuling list block st ≡ Fine → length st ≤ storeMost
+  store-of-inputs e =
+      let others : Ruling = need (listFits list) ListLength 0 then walkRuling (checks scope.Store [] st) list then need (eqb (length block) (stored (recordsOf list))) BlockLength 0 in
+      leb-true (length st) storeMost (true-of-need (leb (length st) storeMost) TooLong 0 (fine-of-then (need (leb (length st) storeMost) TooLong 0) others e .0))
+
   pub readable-of-inputs : inputsRuling list block st ≡ Fine → Counted list × Readable (recordsOf list) block st
   readable-of-inputs e =
       let walked : Ruling = walkRuling (checks scope.Store [] st) list in
@@ -69,6 +75,12 @@ module _ (list block st : List ℕ) where
   checked-parts k e =
       let a = fine-of-then (inputsRuling list block st) (need (ltb k (length (recordsOf list))) NoSuchRecord 0) e in
       (readable-of-inputs (a .0) .1, ltb-true k (length (recordsOf list)) (true-of-need (ltb k (length (recordsOf list))) NoSuchRecord 0 (a .1)))
+
+-- a refusal of check that is not 11 is one of its other checks
+pub stop-of-check : (q : Ruling) (t : Bool) (r : Refusal) → answer (q then need t NoSuchRecord 0) (lengthOnly 0) ≡ Refused r → (r .fault ≡ NoSuchRecord → ⊥) → q ≡ Stop r
+stop-of-check Fine true r e h = absurd (let z : _≡_ {A = ℕ} 0 1 = cc in omega arith)
+stop-of-check Fine false r e h = absurd (h (let z : refuse NoSuchRecord 0 ≡ r = cc in ap (λ (x : Refusal). x .fault) (sym z)))
+stop-of-check (Stop x) t r e h = cc
 
 -- a written list is accepted with its stored block
 pub inputs-written : (l : List Record) (block st : List ℕ) → length l ≤ 4096 → length st ≤ storeMost → Readable l block st → inputsRuling (encode l) block st ≡ Fine

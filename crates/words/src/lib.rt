@@ -24,7 +24,7 @@ fn same_block(a: &[u8], b: &[u8]) -> bool
 }
 
 // The shorter of two lengths.
-pub fn shorter(a: usize, b: usize) -> usize
+fn shorter(a: usize, b: usize) -> usize
     ensures { λ r. ⌜ r ≡ min a b ⌝ }
 {
     if a < b {
