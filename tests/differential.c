@@ -28,7 +28,7 @@
  * was judged by commit and stood behind another fault, and choices were committed that cost more than the estimate's, and as much, a match and a
  * stored stretch differed in one byte at each pair of places within a word, of the pairs of different lists that compare accepted a third or more
  * have the same bytes from the same places and are cut differently, a third or more have the same bytes from other places, by kind, by address and by
- * mark, and some other bytes, in the stored blocks alone, as the beginning of the other, and else, partition, commit and pass each kept every match of
+ * mark, and some other bytes, in the stored blocks alone, as one list ends first, and else, partition, commit and pass each kept every match of
  * a list and gave one up, of neighbouring matches two in five or more go on in the store and as many do not, about a third of the matches are held,
  * and about a third of those that go on have another mark, marks were flipped, a short list would have been cheaper with a held match stored, calls
  * were made without the marks, accepted and refused, of two loose lists two in five or more have the same origins and as many have not, loose lists
@@ -942,9 +942,9 @@ static void origins_agree(struct listed a, struct listed b, int same, const stru
 }
 
 /* Pairs of which neither list is refused: one and the same list with one block; different lists, cut differently, that agree in bytes and origins;
- * such as agree in bytes, by the first way in which their origins differ; and such as do not: in the blocks alone, as one is the beginning of the
- * other, and else. */
-static uint64_t one_list, cut_otherwise, same_bytes[WAYS], other_blocks, beginnings, other_bytes;
+ * such as agree in bytes, by the first way in which their origins differ; and such as do not: in the blocks alone, as one ends, with the
+ * same origins so far, before the other, and else. */
+static uint64_t one_list, cut_otherwise, same_bytes[WAYS], other_blocks, ended_first, other_bytes;
 
 static void tally_pair(struct listed a, struct listed b, int bytes_agree, int way)
 {
@@ -952,7 +952,7 @@ static void tally_pair(struct listed a, struct listed b, int bytes_agree, int wa
     if (bytes_agree)
         *(way == SAME ? (one ? &one_list : &cut_otherwise) : &same_bytes[way]) += 1;
     else
-        *(way == SAME ? &other_blocks : way == BY_LENGTH ? &beginnings : &other_bytes) += 1;
+        *(way == SAME ? &other_blocks : way == BY_LENGTH ? &ended_first : &other_bytes) += 1;
 }
 
 /* Yes exactly where both lists rebuild the same bytes and each byte has the same origin in both; and exactly where tidy writes the same list of both,
@@ -2403,7 +2403,7 @@ static uint64_t same_bytes_pairs(void)
 
 static uint64_t other_pairs(void)
 {
-    return other_blocks + beginnings + other_bytes;
+    return other_blocks + ended_first + other_bytes;
 }
 
 static void print_pairs(void)
@@ -2411,9 +2411,9 @@ static void print_pairs(void)
     const uint64_t all = cut_otherwise + same_bytes_pairs() + other_pairs();
     printf("pairs of different lists that compare accepted: %" PRIu64 "; yes, cut differently: %" PRIu64 "; no, the same bytes from other places: %"
            PRIu64 " (first new in one: %" PRIu64 ", by the address: %" PRIu64 ", by the mark: %" PRIu64 "); no, other bytes: %" PRIu64
-           " (in the blocks alone: %" PRIu64 ", one the beginning of the other: %" PRIu64 ", else: %" PRIu64 "); yes of one list with one block: %"
+           " (in the blocks alone: %" PRIu64 ", one ends first: %" PRIu64 ", else: %" PRIu64 "); yes of one list with one block: %"
            PRIu64 "\n", all, cut_otherwise, same_bytes_pairs(), same_bytes[AS_NEW], same_bytes[BY_ADDRESS], same_bytes[BY_MARK], other_pairs(),
-           other_blocks, beginnings, other_bytes, one_list);
+           other_blocks, ended_first, other_bytes, one_list);
     const int calls[] = { PARTITION, COMMIT, PASS };
     printf("compare of a list and what was written of it");
     for (int i = 0; i < 3; i++)
@@ -2533,7 +2533,7 @@ static int missing_pairs(void)
         + too_few(same_bytes[AS_NEW], 1, "no pair has the same bytes, new in one list and drawn in the other")
         + too_few(same_bytes[BY_ADDRESS], 1, "no pair has the same bytes from other addresses")
         + too_few(same_bytes[BY_MARK], 1, "no pair has the same bytes from the same addresses with other marks")
-        + too_few(other_blocks, 1, "no pair differs in its stored blocks alone") + too_few(beginnings, 1, "no list was compared with its beginning")
+        + too_few(other_blocks, 1, "no pair differs in its stored blocks alone") + too_few(ended_first, 1, "no list was compared with one that goes on")
         + too_few(other_bytes, 1, "no pair has other bytes from other places") + too_few(one_list, 1, "no list was compared with itself");
     const int calls[] = { PARTITION, COMMIT, PASS };
     for (int i = 0; i < 3; i++)

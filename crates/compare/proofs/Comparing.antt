@@ -4,17 +4,16 @@ use Prim.Native.Nat.{ℕ, zero, suc, _+_, _/_, _≤_, _<_}
 use native.Mathlib.Omega.{arith}
 use mathlib.Core.Path.{_≡_, refl, sym, _∙_, ap}
 use mathlib.Core.Bool.{Bool, true, false, _&&_}
-use mathlib.Core.List.{List, [], _∷_}
+use mathlib.Core.List.{List, []}
 use lib.Dec.{leb}
 use lib.ListN.{length, replicate}
 use borrow.Author.Tests.{leb-true, leb-false}
 use Rattle.format.specs.declared.Record.{Record}
 use Rattle.format.specs.declared.Record.the-variants.{New, Match}
 use Rattle.format.specs.Record.{from}
-use Rattle.format.specs.Meaning.{sizeOf, whole}
-use Rattle.format.specs.WellFormed.{Sized}
+use Rattle.format.specs.Meaning.{sizeOf}
 use Rattle.format.specs.Origins.{fresh, drawnAt, originsOf, origins, sameSource, sameOrigins}
-use Rattle.format.proofs.Tracing.{length-origin, source-true, origins-self, same-append}
+use Rattle.format.proofs.Tracing.{length-origin, length-origins, source-true, origins-self, other-lengths, same-append}
 use Rattle.cursors.specs.declared.Cursor.{Cursor}
 use Rattle.cursors.specs.declared.Pieces.{Pieces}
 use Rattle.cursors.specs.Cursor.{front, remaining, Stands, StepReady, Checked}
@@ -42,22 +41,6 @@ same-piece (Match (suc s) a) (Match (suc t) b) e h = go (sameSource a b) refl
         rw same (origins-self (from (drawnAt (a .held)) (a .address + 1) s))
     go false k = refl
 
--- ---- one list at its end
-
-more-first : (l : List Record) → Sized l → 0 < whole l → sameOrigins (origins l) [] ≡ false
-more-first [] h k = absurd (omega arith)
-more-first (New zero ∷ l) h k = absurd (omega (arith, h .0))
-more-first (New (suc s) ∷ l) h k = refl
-more-first (Match zero a ∷ l) h k = absurd (omega (arith, h .0))
-more-first (Match (suc s) a ∷ l) h k = refl
-
-more-second : (l : List Record) → Sized l → 0 < whole l → sameOrigins [] (origins l) ≡ false
-more-second [] h k = absurd (omega arith)
-more-second (New zero ∷ l) h k = absurd (omega (arith, h .0))
-more-second (New (suc s) ∷ l) h k = refl
-more-second (Match zero a ∷ l) h k = absurd (omega (arith, h .0))
-more-second (Match (suc s) a ∷ l) h k = refl
-
 -- ---- the loop
 
 abbrev sameFrom : List ℕ → List ℕ → Cursor → Cursor → Bool
@@ -78,7 +61,7 @@ module _ {first second : List ℕ} {x y : Cursor} (g : So-far first second x y) 
 
   -- the second list ends, and the first goes on
   pub other-of-more : x .place < length first / 12 → length second / 12 ≤ y .place → sameOriginsIn first second ≡ false
-  other-of-more h k = g .so-far ∙ (rw (remaining-none second y k) (more-first (remaining first x) (g .at-first .sized) (goes (g .at-first) h)))
+  other-of-more h k = g .so-far ∙ (rw (remaining-none second y k) (other-lengths (origins (remaining first x)) [] (λ e. omega (arith, e, length-origins (remaining first x), goes (g .at-first) h))))
 
   -- the first list ends: so must the second
   pub same-of-end : length first / 12 ≤ x .place → leb (length second / 12) (y .place) ≡ sameOriginsIn first second
@@ -88,7 +71,7 @@ module _ {first second : List ℕ} {x y : Cursor} (g : So-far first second x y) 
       go true e = sym (g .so-far ∙ rw (remaining-none first x h, remaining-none second y (leb-true (length second / 12) (y .place) e)))
       go false e =
           let k = leb-false (length second / 12) (y .place) e in
-          sym (g .so-far ∙ (rw (remaining-none first x h) (more-second (remaining second y) (g .at-second .sized) (goes (g .at-second) k))))
+          sym (g .so-far ∙ (rw (remaining-none first x h) (other-lengths [] (origins (remaining second y)) (λ i. omega (arith, i, length-origins (remaining second y), goes (g .at-second) k)))))
 
   module _ {s : Pieces} (t : Turn first second x y s) where
     same-step : sameOriginsIn first second ≡ alike (s .one) (s .two) && sameFrom first second (s .first) (s .second)

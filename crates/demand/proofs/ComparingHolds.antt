@@ -40,20 +40,19 @@ use Rattle.choice.proofs.Least.{least-fits, keepAll-list}
 use Rattle.choice.proofs.Holding.{keeps-of-origins}
 use Rattle.admit.proofs.Admitting.{Sound}
 use Rattle.writer.specs.Decide.{Decided}
-use Rattle.writer.proofs.Deciding.{decided-fine, decided-answer, decided-areas, block-handed-on}
+use Rattle.writer.proofs.Deciding.{decided-fine, decided-areas}
 use Rattle.show.specs.Check.{inputsRuling}
 use Rattle.show.proofs.Accepting.{readable-of-inputs, stop-of-check}
 use Rattle.rebuild.specs.Rebuild.{rebuildRuling}
 use Rattle.compare.specs.Compare.{compareRuling, versionOf, sameVersion, sameOriginsIn, sameThroughout, yesOrNo, compared}
 use Rattle.compare.proofs.Answering.{BothFine, compared-fine, by-blocks}
 use Rattle.linear.proofs.Theorems.{pass-holds}
-use Rattle.loose.specs.Loose.{tidyForm}
 use Rattle.demand.specs.Demand.{Call, Rebuilding, writtenList, writtenBlock}
 use Rattle.demand.specs.Tidying.{Tidying, Tidies, tidyList, SameOrigins}
 use Rattle.demand.specs.Comparing.{Rebuilds, writtenVersion, KeepsAll, Exactly, ComparingLaws}
-use Rattle.demand.proofs.WrittenList.{whole-written, inputs-accepted, rebuilt-written}
+use Rattle.demand.proofs.WrittenList.{list-written, block-written, whole-written, inputs-accepted, rebuilt-written}
 use Rattle.demand.proofs.SplitHolds.{sound, given, decides}
-use Rattle.demand.proofs.TidyingHolds.{list-told, inputs-form, same-of-origins, one-form, list-is, sound-of-decided}
+use Rattle.demand.proofs.TidyingHolds.{list-told, inputs-form, same-of-origins, one-form, tidying-laws, sound-of-decided}
 
 -- ---- an accepted call of rebuild
 
@@ -136,9 +135,7 @@ alike-sym first second = go (sameOriginsIn first second) (sameOriginsIn second f
 
 module _ {list st : List ℕ} {x : Tidying} (t : Tidies list st x) (a : Accepts (x .answer)) (block : List ℕ) where
   origins-stay : sameOriginsIn list (tidyList x) ≡ true
-  origins-stay =
-      origins-same (origins (recordsOf list)) (origins (recordsOf (tidyList x)))
-      (sym (ap (λ (l : List ℕ). origins (recordsOf l)) (list-told t a) ∙ ap origins (records-encode (tidyForm list)) ∙ origins-tidy (recordsOf list)))
+  origins-stay = alike-of-same list (tidyList x) (tidying-laws .origins-stay list st x t a)
 
   beside-tidied : compared list (tidyList x) block block st ≡ answer (inputsRuling list block st) (yesOrNo true)
   beside-tidied = go (inputsRuling list block st) refl
@@ -164,9 +161,6 @@ module _ {q : Ruling} {p : Price} {list block st : List ℕ} {x : Call} {y : Reb
 
   abbrev l : List Record
   l = listOf (recordsOf list) c
-
-  block-is : writtenBlock x ≡ blockOf l v
-  block-is = block-handed-on made fine (ap (λ (r : Answer). figuresIn r .stored) (decided-answer made fine)) (omega (arith, whole-written s c is-choice))
 
   choice-is : take (length list / 12) (x .after .choice) ≡ bitBytes c
   choice-is =
@@ -196,7 +190,7 @@ module _ {q : Ruling} {p : Price} {list block st : List ℕ} {x : Call} {y : Reb
 
   beside-written : Exactly (compared list (writtenList x) block (writtenBlock x) st) (KeepsAll list x)
   beside-written =
-      rw (list-is made fine s, block-is)
+      rw (list-written made fine, block-written made fine (omega (arith, whole-written s c is-choice)))
       (exactly (sameOriginsIn list (encode l)) by-origins (λ k. kept-alike (bits-eq c (keepAll (recordsOf list)) (sym choice-is ∙ k))) (λ e. choice-is ∙ ap bitBytes (alike-kept e)))
 
 -- ---- the store

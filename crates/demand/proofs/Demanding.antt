@@ -1,6 +1,6 @@
 -- Section 8.1 holds of any four calls that meet their contracts, in areas long enough for them.
 -- Assumes nothing.
-use Prim.Native.Nat.{ℕ, _*_, _/_, _≤_}
+use Prim.Native.Nat.{ℕ, _/_, _≤_}
 use native.Mathlib.Omega.{arith}
 use mathlib.Core.Path.{_≡_, sym, _∙_, ap}
 use mathlib.Core.List.{List}
@@ -21,13 +21,13 @@ use Rattle.choice.proofs.Least.{least-is-least, least-fits}
 use Rattle.admit.specs.Admit.{findings, partitionRuling, LongEnough}
 use Rattle.admit.proofs.Admitting.{Sound, sound-of-fine, findings-of-long}
 use Rattle.writer.specs.Decide.{figures, laid}
-use Rattle.writer.proofs.Deciding.{decided-answer, decided-areas, list-handed-on, block-handed-on, block-within}
+use Rattle.writer.proofs.Deciding.{decided-answer, decided-areas, block-within}
 use Rattle.rebuild.specs.Rebuild.{Rebuilt}
 use Rattle.call_partition.specs.Partition.{Partitioned}
 use Rattle.linear.proofs.Theorems.{PassHolds, pass-holds}
 use Rattle.call_pass.specs.Pass.{passChoiceOf, passLooksOf}
 use Rattle.demand.specs.Demand.{Calls, writtenList, writtenBlock, Made, Room, Demand, DemandThree}
-use Rattle.demand.proofs.WrittenList.{whole-written, version-back, partition-accepts, least-again, list-again}
+use Rattle.demand.proofs.WrittenList.{list-written, block-written, whole-written, version-back, partition-accepts, least-again, list-again}
 
 accepts-of : {a : Answer} {x : Figures} → a ≡ Accepted x → Accepts a
 accepts-of e = rw e tt
@@ -47,10 +47,10 @@ module _ (price : Price) (list v st : List ℕ) (x : Calls) (made : Made price l
   whole-least = whole-written sound (leastOf price list) (least-fits (ratesOf price) (recordsOf list))
 
   list-is : writtenList (x .first) ≡ encode (listOf (recordsOf list) (leastOf price list))
-  list-is = list-handed-on (made .first) first-fine (ap (λ (a : Answer). 12 * figuresIn a .entries) first-answer)
+  list-is = list-written (made .first) first-fine
 
   block-is : writtenBlock (x .first) ≡ blockOf (listOf (recordsOf list) (leastOf price list)) v
-  block-is = block-handed-on (made .first) first-fine (ap (λ (a : Answer). figuresIn a .stored) first-answer) (omega (arith, whole-least))
+  block-is = block-written (made .first) first-fine (omega (arith, whole-least))
 
   -- rebuild of what it wrote
   rebuilt-made : Rebuilt (encode (listOf (recordsOf list) (leastOf price list))) (blockOf (listOf (recordsOf list) (leastOf price list)) v) st (x .rebuilt .before) (x .rebuilt .answer) (x .rebuilt .after)

@@ -1,7 +1,7 @@
 -- A held match is kept and stays bound to its address; and the calls that give the mark no meaning answer as if it were not there.
 -- In order: what a record comes to without its mark; the checks; the calls; held matches in partition and pass.
 -- Assumes nothing.
-use Prim.Native.Nat.{ℕ, zero, suc, _+_, _*_}
+use Prim.Native.Nat.{ℕ, zero, suc, _+_}
 use mathlib.Core.Path.{_≡_, refl, _∙_, ap, ap₂}
 use mathlib.Core.List.{List, [], _∷_, _++_}
 use lib.ListN.{length, take, drop, getD}
@@ -10,8 +10,7 @@ use Rattle.format.specs.declared.Record.{Record}
 use Rattle.format.specs.declared.Record.the-variants.{New, Match}
 use Rattle.format.specs.declared.Ruling.{Ruling}
 use Rattle.format.specs.declared.Ruling.the-variants.{Fine}
-use Rattle.format.specs.declared.Answer.{Answer}
-use Rattle.format.specs.Refusal.{answer, figuresIn}
+use Rattle.format.specs.Refusal.{answer}
 use Rattle.format.specs.Record.{recordsOf}
 use Rattle.format.specs.Meaning.{whole, stored, rebuilt, partOf, partAt}
 use Rattle.format.specs.Marks.{bare, bares, unmarked, bonds}
@@ -30,12 +29,13 @@ use Rattle.choice.proofs.Least.{least-fits}
 use Rattle.choice.proofs.Holding.{keeps-held, bonds-list}
 use Rattle.admit.proofs.Admitting.{sound-of-fine}
 use Rattle.writer.specs.Decide.{Decided}
-use Rattle.writer.proofs.Deciding.{decided-fine, decided-answer, decided-areas, list-handed-on}
+use Rattle.writer.proofs.Deciding.{decided-fine, decided-areas}
 use Rattle.rules.specs.Rules.{testsOf}
 use Rattle.rules.proofs.ByKind.{untouched}
 use Rattle.linear.proofs.Theorems.{pass-holds}
 use Rattle.demand.specs.Demand.{Call}
 use Rattle.demand.specs.Marks.{HeldStay, HeldMatches, MarksUnread}
+use Rattle.demand.proofs.WrittenList.{list-written}
 
 -- ---- what a record comes to without its mark
 
@@ -123,12 +123,11 @@ pub held-stay : {q : Ruling} {rates : Rates} {list v : List ℕ} {x : Call} {c :
     → IsChoice (recordsOf list) c → HeldStay list v x
 held-stay {q} {rates} {list} {v} {x} {c} {looks} made fine h =
     let l = listOf (recordsOf list) c in
-    let written = list-handed-on made fine (ap (λ (a : Answer). 12 * figuresIn a .entries) (decided-answer made fine)) in
     record {
       choice = c;
       written = decided-areas made fine;
       kept = keeps-held (recordsOf list) c h;
-      bonds-alike = ap (λ (m : List ℕ). bonds (recordsOf m)) written ∙ ap bonds (records-encode l) ∙ bonds-list (recordsOf list) c h;
+      bonds-alike = ap (λ (m : List ℕ). bonds (recordsOf m)) (list-written made fine) ∙ ap bonds (records-encode l) ∙ bonds-list (recordsOf list) c h;
     }
 
 pub held-matches : HeldMatches

@@ -1,6 +1,6 @@
 -- The laws of the estimate and the commitment hold.
 -- Assumes nothing.
-use Prim.Native.Nat.{ℕ, _*_, _/_, _≤_}
+use Prim.Native.Nat.{ℕ, _/_, _≤_}
 use native.Mathlib.Omega.{arith}
 use mathlib.Core.Path.{_≡_, refl, sym, _∙_, ap, ap₂, subst}
 use mathlib.Core.Bool.{Bool, true, false}
@@ -32,15 +32,15 @@ use Rattle.admit.specs.Admit.{areasFit, admitRuling, partitionRuling}
 use Rattle.admit.proofs.Admitting.{Sound, sound-of-fine, areas-most, areas-of-most, admit-alike, areas-of-fine, stop-of-short}
 use Rattle.writer.specs.Write.{listIn}
 use Rattle.writer.specs.Decide.{figures, decidedAnswer, decidedAreas, Decided}
-use Rattle.writer.proofs.Deciding.{decided-answer, list-handed-on, block-handed-on}
+use Rattle.writer.proofs.Deciding.{decided-answer}
 use Rattle.call_partition.specs.Partition.{Partitioned}
 use Rattle.estimate.specs.Estimate.{estimateRuling, Estimated}
 use Rattle.commit.specs.Commit.{choiceRuling, commitRuling, Committed}
 use Rattle.commit.proofs.Choosing.{Stands, stands, choice-of-fine, fine-of-choice}
 use Rattle.demand.specs.declared.TwoAnswers.{TwoAnswers}
-use Rattle.demand.specs.Demand.{Call, writtenList, writtenBlock}
+use Rattle.demand.specs.Demand.{Call}
 use Rattle.demand.specs.Split.{room, InTurn, Commits, GivesJoined, SplitLaws, TwoCalls}
-use Rattle.demand.proofs.WrittenList.{whole-written, version-back}
+use Rattle.demand.proofs.WrittenList.{list-written, block-written, whole-written, version-back}
 use Rattle.demand.proofs.MarksHolds.{held-stay}
 
 areas-eq : {x y : Areas} → x .choice ≡ y .choice → x .list ≡ y .list → x .block ≡ y .block → x ≡ y
@@ -118,12 +118,6 @@ module _ {p : Price} {list v st : List ℕ} {x : Call} (k : Commits p list v st 
 
   answer-told : x .answer ≡ Accepted (figures (ratesOf p) (listOf (recordsOf list) c) 0)
   answer-told = decided-answer decides refl
-
-  list-written : writtenList x ≡ encode (listOf (recordsOf list) c)
-  list-written = list-handed-on decides refl (ap (λ (a : Answer). 12 * figuresIn a .entries) answer-told)
-
-  block-written : writtenBlock x ≡ blockOf (listOf (recordsOf list) c) v
-  block-written = block-handed-on decides refl (ap (λ (a : Answer). figuresIn a .stored) answer-told) (omega (arith, whole-written sound c (given .1 .is-choice)))
 
 -- ---- the two calls in turn
 
@@ -222,7 +216,7 @@ split-laws =
       without-room = no-room;
       any-choice = fine-of-choice;
       choices-alone = λ list choice h. let c = choice-of-fine list choice h in (c .0, c .1 .is-choice, c .1 .bytes-are);
-      comes-back = λ p list v st x y k a made long. version-back (sound k a) (given k a .0) (given k a .1 .is-choice) (rw (list-written k a, block-written k a) at made) long;
+      comes-back = λ p list v st x y k a made long. version-back (sound k a) (given k a .0) (given k a .1 .is-choice) (rw (list-written (decides k a) refl, block-written (decides k a) refl (omega (arith, whole-written (sound k a) (given k a .0) (given k a .1 .is-choice)))) at made) long;
       no-cheaper = costs-no-less;
       keeping-all = joined;
       held-stay = λ p list v st x k a. held-stay (decides k a) refl (given k a .1 .is-choice);

@@ -47,7 +47,7 @@ use Rattle.choice.proofs.Least.{least-fits, keepAll-list, keepAll-is-choice}
 use Rattle.admit.specs.Admit.{partitionRuling}
 use Rattle.admit.proofs.Admitting.{Sound, sound-of-fine}
 use Rattle.writer.specs.Decide.{Decided}
-use Rattle.writer.proofs.Deciding.{decided-fine, decided-answer, list-handed-on}
+use Rattle.writer.proofs.Deciding.{decided-fine, decided-answer}
 use Rattle.linear.proofs.Theorems.{pass-holds}
 use Rattle.commit.proofs.Choosing.{stands}
 use Rattle.loose.specs.Loose.{looseRuling, tidyRuling, tidyForm, Tidied}
@@ -55,7 +55,7 @@ use Rattle.loose.proofs.Accepting as loose
 use Rattle.demand.specs.Demand.{Call, Rebuilding, writtenList}
 use Rattle.demand.specs.Split.{Commits}
 use Rattle.demand.specs.Tidying.{Tidying, Tidies, tidyList, Writes, SameOrigins, TidyingLaws, TwoCalls}
-use Rattle.demand.proofs.WrittenList.{well-formed-written, whole-written, count-written}
+use Rattle.demand.proofs.WrittenList.{list-written, well-formed-written, whole-written, count-written}
 use Rattle.demand.proofs.SplitHolds.{sound, given, decides}
 
 -- ---- check_loose beside check
@@ -194,23 +194,20 @@ module _ {q : Ruling} {p : Price} {list v st : List ℕ} {c : List Bit} {looks i
   entries-are : figuresIn (x .answer) .entries ≡ length l
   entries-are = ap (λ (r : Answer). figuresIn r .entries) (decided-answer made fine)
 
-  pub list-is : writtenList x ≡ encode l
-  list-is = list-handed-on made fine (ap (λ (n : ℕ). 12 * n) entries-are)
-
   -- tidy writes it back
   handed-back : {y : Tidying} → IsChoice (recordsOf list) c → Tidies (writtenList x) st y → length (writtenList x) ≤ length (y .before)
       → Writes (writtenList x) (figuresIn (x .answer) .entries) y
   handed-back h t room =
       let w = well-formed-written s c h in
       let sound-list : loose.Sound l st = record { store-most = s .fits .store-most; sized = w .sized; inside = inside-agrees st l v (w .agrees); whole-most = omega (arith, whole-written s c h, s .fits .version-most) } in
-      writes-back l list-is entries-are (settled-tidy (chosen (recordsOf list) c)) (count-written s c h) sound-list t room
+      writes-back l (list-written made fine) entries-are (settled-tidy (chosen (recordsOf list) c)) (count-written s c h) sound-list t room
 
   -- and of the list handed in it writes the same, where the choice keeps all
   all-kept : {y : Tidying} → l ≡ tidyForm list → Tidies list st y → length list ≤ length (y .before) → Writes (writtenList x) (figuresIn (x .answer) .entries) y
   all-kept {y} e t room =
       let admitted : tidyRuling list st (length (y .before)) ≡ Fine =
       rw (le-leb (length st) storeMost (s .fits .store-most), s .fits .list-fits, le-leb (length list) (length (y .before)) room, loose-of-version v st list (s .fits .version-most) (s .covered .walk-fine)) in
-      writes-form l t admitted (sym e) list-is entries-are
+      writes-form l t admitted (sym e) (list-written made fine) entries-are
 
 -- admitted inputs of partition and pass
 pub sound-of-decided : {p : Price} {list v st : List ℕ} {c : List Bit} {looks : ℕ} {x : Call} → Decided (partitionRuling p list v st (x .before)) (ratesOf p) list v c looks (x .before) (x .answer) (x .after)

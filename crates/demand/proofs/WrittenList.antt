@@ -1,16 +1,17 @@
 -- What partition writes of admitted inputs: a list of the same version, which rebuilds it, measures as the answer says, is admitted again,
 -- and comes back as it is.
 -- Assumes nothing.
-use Prim.Native.Nat.{ℕ, _≤_}
+use Prim.Native.Nat.{ℕ, _*_, _≤_}
 use native.Mathlib.Omega.{arith}
 use mathlib.Core.Path.{_≡_, _∙_, ap}
 use mathlib.Core.List.{List}
 use lib.ListN.{length}
 use Rattle.format.specs.declared.Record.{Record}
+use Rattle.format.specs.declared.Ruling.{Ruling}
 use Rattle.format.specs.declared.Ruling.the-variants.{Fine}
 use Rattle.format.specs.declared.Answer.{Answer}
 use Rattle.format.specs.declared.Answer.the-variants.{Accepted}
-use Rattle.format.specs.Refusal.{lengthOnly}
+use Rattle.format.specs.Refusal.{lengthOnly, figuresIn}
 use Rattle.format.specs.Record.{recordsOf, encode}
 use Rattle.format.specs.Meaning.{whole, blockOf, rebuilt}
 use Rattle.format.specs.WellFormed.{WellFormed, Readable}
@@ -18,6 +19,7 @@ use Rattle.format.proofs.Encoding.{records-encode, fits-encode}
 use Rattle.format.proofs.Rebuilding.{rebuilt-block, length-block, whole-agrees, inside-agrees}
 use Rattle.walk.proofs.Encoded.{walk-sizes}
 use Rattle.price.specs.declared.Price.{Price}
+use Rattle.price.specs.declared.Rates.{Rates}
 use Rattle.price.specs.Price.{ratesOf}
 use Rattle.measure.specs.Measure.{measured, measures}
 use Rattle.measure.proofs.Measuring.{measured-fine}
@@ -27,10 +29,21 @@ use Rattle.choice.proofs.Least.{again-keeps, again-list}
 use Rattle.choice.proofs.Lists.{length-list, well-formed-list}
 use Rattle.admit.specs.Admit.{partitionRuling, LongEnough}
 use Rattle.admit.proofs.Admitting.{Sound, fine-of-written}
+use Rattle.writer.specs.Decide.{Decided}
+use Rattle.writer.proofs.Deciding.{decided-answer, list-handed-on, block-handed-on}
 use Rattle.show.specs.Check.{inputsRuling}
 use Rattle.rebuild.specs.Rebuild.{rebuildRuling, Rebuilt}
 use Rattle.show.proofs.Accepting.{inputs-written}
 use Rattle.rebuild.proofs.Accepting.{rebuild-fine}
+use Rattle.demand.specs.Demand.{Call, writtenList, writtenBlock}
+
+-- a call that decides for a choice wrote the list of that choice, and its stored block
+module _ {q : Ruling} {rates : Rates} {list v : List ℕ} {c : List Bit} {looks : ℕ} {x : Call} (made : Decided q rates list v c looks (x .before) (x .answer) (x .after)) (fine : q ≡ Fine) where
+  pub list-written : writtenList x ≡ encode (listOf (recordsOf list) c)
+  list-written = list-handed-on made fine (ap (λ (a : Answer). 12 * figuresIn a .entries) (decided-answer made fine))
+
+  pub block-written : whole (listOf (recordsOf list) c) ≤ length v → writtenBlock x ≡ blockOf (listOf (recordsOf list) c) v
+  block-written within = block-handed-on made fine (ap (λ (a : Answer). figuresIn a .stored) (decided-answer made fine)) within
 
 -- of any choice
 module _ {price : Price} {list v st : List ℕ} {c a b : ℕ} (s : Sound price list v st c a b) (d : List Bit) (h : IsChoice (recordsOf list) d) where

@@ -1,9 +1,9 @@
--- Laws of rulings: a chain of checks is fine exactly when each of them is.
+-- Laws of rulings: a chain of checks is fine exactly when each of them is; and of the tests in them.
 -- Assumes nothing.
 use Prim.Native.Nat.{ℕ}
 use native.Mathlib.Omega.{arith}
-use mathlib.Core.Path.{_≡_, refl}
-use mathlib.Core.Bool.{Bool, true, false, _&&_}
+use mathlib.Core.Path.{_≡_, refl, sym}
+use mathlib.Core.Bool.{Bool, true, false, _&&_, Bool·beq}
 use Rattle.format.specs.declared.Fault.{Fault}
 use Rattle.format.specs.declared.Refusal.{Refusal}
 use Rattle.format.specs.declared.Ruling.{Ruling}
@@ -36,6 +36,16 @@ both-of-and false b e = absurd (let z : _≡_ {A = ℕ} 0 1 = cc in omega arith)
 
 pub and-of-both : (a b : Bool) → a ≡ true → b ≡ true → a && b ≡ true
 and-of-both a b e f = rw (e, f)
+
+pub beq-self : (x : Bool) → Bool·beq x x ≡ true
+beq-self true = refl
+beq-self false = refl
+
+pub beq-true : (x y : Bool) → Bool·beq x y ≡ true → x ≡ y
+beq-true true true e = refl
+beq-true true false e = sym e
+beq-true false true e = e
+beq-true false false e = refl
 
 pub fine-of-accepted : (q : Ruling) (x y : Figures) → answer q x ≡ Accepted y → q ≡ Fine
 fine-of-accepted Fine x y e = refl

@@ -14,7 +14,7 @@ use Rattle.format.specs.declared.Record.{Record}
 use Rattle.format.specs.declared.Record.the-variants.{New, Match}
 use Rattle.format.specs.Meaning.{sizeOf, whole}
 use Rattle.format.specs.Origins.{Origin, fresh, drawn, drawnAt, originsOf, origins, originAt, sameSource, sameOrigin, sameOrigins}
-use Rattle.format.proofs.Rulings.{both-of-and, and-of-both}
+use Rattle.format.proofs.Rulings.{both-of-and, and-of-both, beq-self, beq-true}
 use Rattle.format.proofs.Rows.{length-from}
 
 -- ---- as many origins as bytes
@@ -32,16 +32,6 @@ pub origins-alike : (l k : List Record) → whole l ≡ whole k → ((i : ℕ) �
 origins-alike l k e h = ext-getD fresh (origins l) (origins k) (length-origins l ∙ e ∙ sym (length-origins k)) (λ i lt. h i (omega (arith, length-origins l)))
 
 -- ---- the test is one of equality
-
-beq-self : (x : Bool) → Bool·beq x x ≡ true
-beq-self true = refl
-beq-self false = refl
-
-beq-true : (x y : Bool) → Bool·beq x y ≡ true → x ≡ y
-beq-true true true e = refl
-beq-true true false e = sym e
-beq-true false true e = e
-beq-true false false e = refl
 
 pub source-true : (a b : Source) → sameSource a b ≡ true → a ≡ b
 source-true a b e =
@@ -72,6 +62,14 @@ origins-true (o ∷ os) (u ∷ us) e =
 
 pub origins-same : (os us : List Origin) → os ≡ us → sameOrigins os us ≡ true
 origins-same os us e = rw (← e) (origins-self os)
+
+-- of lists that are not equally long it is no
+pub other-lengths : (os us : List Origin) → (length os ≡ length us → ⊥) → sameOrigins os us ≡ false
+other-lengths os us h = go (sameOrigins os us) refl
+  where
+    go : (t : Bool) → sameOrigins os us ≡ t → t ≡ false
+    go true e = absurd (h (ap length (origins-true os us e)))
+    go false e = refl
 
 -- of two parts, the first equally long, it is of each
 pub same-append : (os us xs ys : List Origin) → length os ≡ length us → sameOrigins (os ++ xs) (us ++ ys) ≡ sameOrigins os us && sameOrigins xs ys

@@ -1,4 +1,5 @@
--- Where each byte of a version comes from, by the records of its list. Which list is tidy with given origins is said in the crate join.
+-- Where each byte of a version comes from, by the records of its list; and whether it comes from the same place by another. Which list is tidy with given
+-- origins is said in the crate join.
 -- Assumes nothing.
 use Prim.Native.Nat.{ℕ}
 use mathlib.Core.Bool.{Bool, true, false, _&&_, Bool·beq}

@@ -16,7 +16,7 @@ use Rattle.format.specs.declared.Record.{Record}
 use Rattle.format.specs.declared.Record.the-variants.{New, Match}
 use Rattle.format.specs.Meaning.{sizeOf, whole, stored, blockOf, rebuilt}
 use Rattle.format.specs.WellFormed.{Sized, Apart, Inside, Agrees}
-use Rattle.format.proofs.Rulings.{both-of-and}
+use Rattle.format.proofs.Rulings.{both-of-and, beq-true}
 use Rattle.join.specs.Join.{goesOn, joins, grown, joinsFirst, join, tidy, Settled}
 
 -- ---- two and three neighbours
@@ -42,13 +42,7 @@ pub record GoesOn (s : ℕ) (a b : Source) : Type 0 where
   pub ends : a .address + s ≡ b .address
 
 pub goes-on : (s : ℕ) (a b : Source) → goesOn s a b ≡ true → GoesOn s a b
-goes-on s a b e = let k = both-of-and (Bool·beq (a .held) (b .held)) (eqb (a .address + s) (b .address)) e in record { marks = same (a .held) (b .held) (k .0); ends = eqb-true (a .address + s) (b .address) (k .1) }
-  where
-    same : (x y : Bool) → Bool·beq x y ≡ true → x ≡ y
-    same true true e = refl
-    same true false e = sym e
-    same false true e = e
-    same false false e = refl
+goes-on s a b e = let k = both-of-and (Bool·beq (a .held) (b .held)) (eqb (a .address + s) (b .address)) e in record { marks = beq-true (a .held) (b .held) (k .0); ends = eqb-true (a .address + s) (b .address) (k .1) }
 
 -- two that joined go on as the second did
 pub joins-on : (r q p : Record) → joins r q ≡ true → joins (grown r (sizeOf q)) p ≡ joins q p
