@@ -2,8 +2,8 @@
  *
  * SCOPE. The calls take lists of records, each new or a match in the store, and say what a list
  * costs, whether it is sound, which version it rebuilds, whether two lists give the same version
- * from the same places, and which list costs least; and they turn the loose list of a finder into
- * its tidy form.
+ * from the same places, and which list costs least; they turn the loose list of a finder into its
+ * tidy form, and pool the lists of two finders.
  * docs/SPECIFICATION.md has the rules, in numbered clauses; "clause" below is one of them.
  *
  * SURROUNDINGS. Link with libcontroller.a. Nothing is allocated and nothing is kept between calls.
@@ -27,7 +27,7 @@
  *                 acceptance
  *   8       8     cost, in 256ths of a disk byte
  *   16      4     entries (index entries): records of the list; of compare, 1 for yes, 0 for no;
- *                 of tidy, the records written
+ *                 of tidy and pool, the records written
  *   20      4     stored bytes: the sizes of new records together
  *   24      4     looks
  *   28      4     whole length: all sizes together
@@ -59,14 +59,15 @@
  * A finder of matches that would need more than 4,096 records ends its list early: the rest of the
  * version is one new record.
  *
- * A LOOSE LIST may have new records side by side (clause 1.14). Only check_loose and tidy take such
- * a list; the other calls refuse it with 5. Tidy writes its tidy form, which every call takes. The
- * stored block is the same for both.
+ * A LOOSE LIST may have new records side by side (clause 1.14). Only check_loose, tidy and pool
+ * take such a list; the other calls refuse it with 5. Tidy writes its tidy form, which every call
+ * takes. The stored block is the same for both. What pool writes is tidy too.
  *
  * A HELD MATCH must go on being drawn from the store. Partition, estimate and pass always keep it;
  * commit refuses a choice that does not. It joins a neighbour only where that one is held too. What
  * is written carries the mark. To compare it is part of where a byte comes from. To measure,
- * rebuild, check and check_loose the mark means nothing.
+ * rebuild, check and check_loose the mark means nothing. In pool a held match of the second list
+ * gives way to a match of the first, held or not.
  *
  * THE NUMBERS, by their cause; number n is clause 5.n:
  *
@@ -84,10 +85,11 @@
  *       record has a mark or an address
  *    5  a new record stands right after a new one (place: the second); no fault in a loose list
  *    6  with this record the sizes pass the version's length (in measure, rebuild, check, compare,
- *       check_loose and tidy: 16,777,216); or, in partition, estimate, commit and pass, all sizes
- *       end short of it (place: the number of records)
+ *       check_loose and tidy: 16,777,216); or, in partition, estimate, commit, pass and pool, all
+ *       sizes end short of it (place: the number of records)
  *    7  a match runs beyond the store
  *    8  a match's bytes differ from the version
+ *   13  the pooled list of two finders has over 4,096 records
  *   the disk
  *   10  the stored block is not as long as the new sizes together
  */
@@ -105,7 +107,7 @@ extern "C" {
 #define ANSWER_BYTES 32
 
 /* The version of this library: it grows when a call, an answer or a number changes. */
-#define CONTROLLER_VERSION 9
+#define CONTROLLER_VERSION 10
 
 /* EN and EM are 1 to E_MOST, F is 1 to F_MOST. */
 #define E_MOST 255
@@ -140,7 +142,8 @@ enum {
     AREA_TOO_SHORT = 9,
     BAD_BLOCK_LENGTH = 10,
     NO_SUCH_RECORD = 11,
-    BAD_CHOICE = 12
+    BAD_CHOICE = 12,
+    TOO_MANY_RECORDS = 13
 };
 
 /* A sentence for a number. */
@@ -164,6 +167,7 @@ static inline const char *number_text(uint32_t number)
     case BAD_CHOICE:
         return "the choice is not one byte for each record, "
                "or has a byte that its record may not have";
+    case TOO_MANY_RECORDS: return "the pooled list has over 4,096 records";
     default: return "no number of this library";
     }
 }
@@ -387,6 +391,33 @@ uint32_t check_loose(const uint8_t *list, size_t list_len,
  * Returns: the number.
  * Stack: at most 512 bytes. */
 uint32_t tidy(const uint8_t *list, size_t list_len,
+              const uint8_t *store, size_t store_len,
+              uint8_t *list_area, size_t list_area_len,
+              uint8_t *answer, size_t answer_len);
+
+/* pool - one list of the lists of two finders (section 4.13).
+ *
+ * Does: byte by byte of the version, draws as the first list says where that is a match, else as
+ *   the second says where that is a match; else the byte is new. What is left of a match of the
+ *   second keeps its addresses and its mark. The pooled list is tidy: new bytes that stand side by
+ *   side are one record, and so are matches where the second begins in the store where the first
+ *   ends and both are held or neither is, of whichever list. It draws on the store wherever either
+ *   list does, and partition takes it. A list pooled with itself gives its own tidy form.
+ * Areas: first and second, two lists, which may have new records side by side; version, the bytes
+ *   that both describe; store, the old data; list_area, at least as long as the pooled list, for
+ *   which 49,152 bytes always do. Areas that are only read may be the same.
+ * Writes: the first bytes of list_area, 12 for each record of the pooled list; answer (entries: the
+ *   records written).
+ * Refuses, in this order: 2 at 0; of the first list 3 at 0, record by record 4, 6, 7, 8 at the
+ *   record, 6 at the number of records; the same of the second list; 13 at 0; 9 at 0, by the length
+ *   of the pooled list. The place counts within the list at fault. To know which list that is, pool
+ *   the first list with itself: where that answers 0 or 9, the second list is at fault.
+ * On refusal: answer holds number and place; list_area is unchanged.
+ * Returns: the number.
+ * Stack: at most 512 bytes. */
+uint32_t pool(const uint8_t *first, size_t first_len,
+              const uint8_t *second, size_t second_len,
+              const uint8_t *version, size_t version_len,
               const uint8_t *store, size_t store_len,
               uint8_t *list_area, size_t list_area_len,
               uint8_t *answer, size_t answer_len);

@@ -37,11 +37,11 @@ struct shape {
     enum second second;
 };
 
-/* One list with its version, store and stored block; a second list with its stored block; the list as check_loose and tidy take it; the least choice,
- * for commit; and the areas to write. */
+/* One list with its version, store and stored block; a second list with its stored block; the list as check_loose and tidy take it; the list of each
+ * finder, for pool; the least choice, for commit; and the areas to write. */
 static struct {
     uint8_t list[RECORDS_MOST * RECORD_BYTES], list_area[RECORDS_MOST * RECORD_BYTES], choice[RECORDS_MOST], least[RECORDS_MOST];
-    uint8_t second[RECORDS_MOST * RECORD_BYTES], loose[RECORDS_MOST * RECORD_BYTES];
+    uint8_t second[RECORDS_MOST * RECORD_BYTES], loose[RECORDS_MOST * RECORD_BYTES], found[2][RECORDS_MOST * RECORD_BYTES];
     uint8_t *version, *store, *block, *second_block, *area;
     size_t list_len, second_len, loose_len, version_len, block_len;
 } in;
@@ -182,6 +182,21 @@ static void set_second(enum second second)
         in.second_block[0] ^= 1;
 }
 
+/* The lists of two finders: each has every other match of the list, and new records in place of the others. */
+static void set_found(void)
+{
+    size_t matches = 0;
+    for (size_t i = 0; i < in.list_len; i += RECORD_BYTES) {
+        for (int finder = 0; finder < 2; finder++)
+            memcpy(in.found[finder] + i, in.list + i, RECORD_BYTES);
+        if (in.list[i] == KIND_NEW)
+            continue;
+        uint8_t *passed_over = in.found[matches++ % 2] + i;
+        passed_over[0] = passed_over[1] = 0;
+        put_number(passed_over + 8, 0);
+    }
+}
+
 /* The least choice, as the reference has it. */
 static void set_least(void)
 {
@@ -218,6 +233,7 @@ static void set_input(const struct shape *shape)
     }
     set_loose(shape->kinds == HALVES);
     set_second(shape->second);
+    set_found();
     set_least();
 }
 
@@ -246,11 +262,11 @@ static void set_up(void)
 
 /* ---- The calls ---- */
 
-enum { MEASURE, CHECK, COMPARE, REBUILD, PARTITION, ESTIMATE, COMMIT, PASS, CHECK_LOOSE, TIDY, CALLS };
+enum { MEASURE, CHECK, COMPARE, REBUILD, PARTITION, ESTIMATE, COMMIT, PASS, CHECK_LOOSE, TIDY, POOL, CALLS };
 enum side { LIBRARY, REFERENCE, SIDES };
 
 static const char *const call_name[CALLS] = {
-    "measure", "check", "compare", "rebuild", "partition", "estimate", "commit", "pass", "check_loose", "tidy",
+    "measure", "check", "compare", "rebuild", "partition", "estimate", "commit", "pass", "check_loose", "tidy", "pool",
 };
 
 static uint8_t answer[SIDES][ANSWER_BYTES];
@@ -288,6 +304,9 @@ static uint32_t make_call(int call, enum side side)
         return (ref ? ref_check_loose : check_loose)(in.loose, in.loose_len, in.store, VERSION_MOST, to, ANSWER_BYTES);
     case TIDY:
         return (ref ? ref_tidy : tidy)(in.loose, in.loose_len, in.store, VERSION_MOST, in.list_area, sizeof in.list_area, to, ANSWER_BYTES);
+    case POOL:
+        return (ref ? ref_pool : pool)(in.found[0], in.list_len, in.found[1], in.list_len, in.version, in.version_len, in.store, VERSION_MOST,
+                                       in.list_area, sizeof in.list_area, to, ANSWER_BYTES);
     default:
         return (ref ? ref_pass : pass)(EN, EM, F, in.list, in.list_len, in.version, in.version_len, in.store, VERSION_MOST,
                                        in.choice, RECORDS_MOST, in.list_area, sizeof in.list_area, in.area, VERSION_MOST,
@@ -377,6 +396,7 @@ static const struct shape few = { "16 MiB, 8 records", 8, VERSION_MOST, TURNS, I
 static const struct shape unlike = { "16 MiB, first differs", 8, VERSION_MOST, TURNS, DIFFERS };
 static const struct shape matches = { "16 MiB, 8 matches", 8, VERSION_MOST, MATCHES, IN_THREE };
 static const struct shape many = { "16 MiB, 4,096 records", RECORDS_MOST, VERSION_MOST, TURNS, ALIKE };
+static const struct shape many_matches = { "16 MiB, 4,096 matches", RECORDS_MOST, VERSION_MOST, MATCHES, ALIKE };
 static const struct shape pieces = { "16 MiB, 4,096 in pieces", RECORDS_MOST, VERSION_MOST, PIECES, ALIKE };
 static const struct shape one_match = { "16 MiB, one match", 1, VERSION_MOST, MATCHES, IN_THREE };
 static const struct shape one_new = { "16 MiB, one new record", 1, VERSION_MOST, NEWS, ALIKE };
@@ -412,6 +432,7 @@ static const struct {
     { &pieces, COMPARE, COMPARE }, { &one_match, REBUILD, PASS }, { &one_new, COMPARE, PASS }, { &small, MEASURE, PASS },
     { &runs, COMPARE, COMPARE }, { &runs, PARTITION, PASS }, { &some_held, PARTITION, PASS },
     { &halves, CHECK_LOOSE, TIDY }, { &small, TIDY, TIDY }, { &runs, TIDY, TIDY },
+    { &many, POOL, POOL }, { &many_matches, POOL, POOL }, { &small, POOL, POOL }, { &runs, POOL, POOL },
 };
 
 static void print_all_times(void)
@@ -429,8 +450,9 @@ static void print_all_growth(void)
            "fit the nearer caches.\n\n%-11s %-23s %12s %12s\n", "call", "growth", "library", "reference");
     for (int call = 0; call < CALLS; call++)
         print_growth(call, &even_512, &even, "512 to 4,096 records");
-    for (int call = 0; call <= PASS; call++)
-        print_growth(call, &few_1, &few, "1 to 16 MiB");
+    for (int call = 0; call < CALLS; call++)
+        if (call != CHECK_LOOSE && call != TIDY)
+            print_growth(call, &few_1, &few, "1 to 16 MiB");
 }
 
 int main(int count, char **arguments)
@@ -447,7 +469,7 @@ int main(int count, char **arguments)
            "byte from the same place and has the same stored block, in other memory. Of 8 records its matches are cut in three, and runs are cut\n"
            "at other places; in pieces, each new record stands before a run of three. Other records are the same in both, and once the first byte\n"
            "differs. Commit is handed the least choice. The loose list in halves is 2,048 records of 2 to 128 bytes, new or match by chance, each\n"
-           "cut in two.\n\n",
+           "cut in two. The two lists of pool have every other match each, and new records for the others.\n\n",
            SAMPLES, EN, EM, F);
     print_all_times();
     print_all_growth();

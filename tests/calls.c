@@ -4,9 +4,9 @@
  * wrong as a case needs it: X is kind 2, N may have an address, "!2" sets byte 2 to 7, and "!2=9" sets it to 9. Every area is longer than what a
  * case lends of it and is filled beforehand, and after the call it is looked at to its last byte: what the call should not write must still hold
  * the filling. A choice is written as its bytes, "101", X for 255. What partition gives, estimate and then commit must give too; the list that
- * partition wrote is handed in again, and must come back, and so must the list that tidy wrote. For each size up to 136 one case each of partition,
- * estimate, commit and pass lets a match differ at every byte, and one of compare a stored stretch, at every pair of places within a word. Compare
- * is lent a store that cannot be read.
+ * partition wrote is handed in again, and must come back, and so must the lists that tidy and pool wrote. For each size up to 136 one case each of
+ * partition, estimate, commit, pass and pool lets a match differ at every byte, and one of compare a stored stretch, at every pair of places within a
+ * word. Compare is lent a store that cannot be read.
  * Exit 0 and one line, with the number of cases, where all is as it should be, else 1 and a line for each case that is not.
  */
 #define _DEFAULT_SOURCE
@@ -18,7 +18,7 @@
 
 #include "controller.h"
 
-#define CASES 2774
+#define CASES 6663
 #define FILL 0xA5
 #define AREA 256
 
@@ -392,7 +392,7 @@ static void test_rebuild(void)
 
 static const char twice[] = "ABCDEABCDEXY";
 
-/* The store of the worked examples (clauses 10.8 and 10.10). */
+/* The store of the worked examples (clauses 10.8, 10.10 and 10.11). */
 static const char ababc[] = "ABABC";
 
 static uint8_t second[AREA];
@@ -1224,14 +1224,14 @@ static uint32_t tidied(size_t n, const char *store, size_t store_length, size_t 
     return tidy(list, n, (const uint8_t *)store, store_length, list_area, room, answer, sizeof answer);
 }
 
-/* Whether tidy wrote this list, no byte behind it and no other area, and answered just the number of its records. */
+/* Whether tidy, or pool, wrote this list, no byte behind it and no other area, and answered just the number of its records. */
 static int wrote(uint32_t returned, const uint8_t *wanted, size_t length)
 {
     return answered(returned, (struct values){ .entries = (uint32_t)(length / RECORD_BYTES) }) && holds(list_area, wanted, length)
         && holds(area, "", 0) && holds(choice, "", 0) && holds(block_area, "", 0) && memcmp(list, list_before, AREA) == 0;
 }
 
-/* Whether one of the two calls refused, and left the list as it was. */
+/* Whether one of these calls refused, and left the list as it was. */
 static int refused_loose(uint32_t returned, uint32_t number, uint32_t place)
 {
     return refused(returned, number, place) && memcmp(list, list_before, AREA) == 0;
@@ -1443,7 +1443,373 @@ static void test_loose_lengths(void)
         sizeof wanted));
 }
 
-/* ---- Partition, estimate, commit, pass and compare: one byte that differs, at each position ---- */
+/* ---- Pool ---- */
+
+/* The worked examples (clause 10.11) are over ABABC, the other cases over ABCDEABCDEXY. */
+
+static uint8_t second_before[AREA];
+
+/* So many bytes of both lists, in an area of so many. */
+static uint32_t pooled(size_t n, size_t m, const char *version, const char *store, size_t room)
+{
+    fill_areas();
+    memcpy(list_before, list, AREA);
+    memcpy(second_before, second, AREA);
+    return pool(list, n, second, m, (const uint8_t *)version, strlen(version), (const uint8_t *)store, strlen(store), list_area, room, answer,
+                sizeof answer);
+}
+
+/* Whether pool wrote this list and nothing else. */
+static int wrote_pooled(uint32_t returned, const uint8_t *wanted, size_t length)
+{
+    return wrote(returned, wanted, length) && memcmp(second, second_before, AREA) == 0;
+}
+
+/* Whether pool refused, and left both lists as they were. */
+static int refused_pool(uint32_t returned, uint32_t number, uint32_t place)
+{
+    return refused_loose(returned, number, place) && memcmp(second, second_before, AREA) == 0;
+}
+
+/* Two lists of a version, and the pooled list. */
+static const struct pooling {
+    const char *what, *store, *first, *second, *version, *pooled;
+} pools[] = {
+    { "no records", ababc, "", "", "", "" },
+    { "drawn by the first, by the second, by neither", ababc, "M2@0 N3", "N2 M2@3 N1", "ABBCZ", "M2@0 M2@3 N1" },
+    { "new in both, loose", ababc, "N1 N4", "N3 N2", "VWXYZ", "N5" },
+    { "the rest of a match", ababc, "M2@2 N2", "M4@0", "ABAB", "M2@2 M2@2" },
+    { "a match on both sides of another", ababc, "N1 M1@3 N2", "M4@0", "ABAB", "M1@0 M1@3 M2@2" },
+    { "the first's mark", ababc, "H2@2 N2", "M4@0", "ABAB", "H2@2 M2@2" },
+    { "each with its mark", ababc, "M2@2 N2", "H4@0", "ABAB", "M2@2 H2@2" },
+    { "a match of both lists", ababc, "M2@0 N3", "N2 M3@2", "ABABC", "M5@0" },
+    { "a match of both lists, in the middle the first's", ababc, "N1 M2@1 N2", "M5@0", "ABABC", "M5@0" },
+    { "a held match of both lists", ababc, "N1 H2@1 N2", "H5@0", "ABABC", "H5@0" },
+    { "a match, and a held one where it ends", ababc, "M2@0 N3", "N2 H3@2", "ABABC", "M2@0 H3@2" },
+    { "a loose list with itself", ababc, "N1 N1 M1@0 M1@1", "N1 N1 M1@0 M1@1", "YZAB", "N2 M2@0" },
+    { "the first without a match", ababc, "N5", "M2@0 M3@2", "ABABC", "M5@0" },
+    { "the second without a match", ababc, "M2@0 M3@2", "N5", "ABABC", "M5@0" },
+    /* One byte. */
+    { "one byte, new in both", twice, "N1", "N1", "0", "N1" },
+    { "one byte, drawn by the first", twice, "M1@0", "N1", "A", "M1@0" },
+    { "one byte, drawn by the second", twice, "N1", "M1@5", "A", "M1@5" },
+    { "one byte, held by the second", twice, "N1", "H1@5", "A", "H1@5" },
+    { "one byte, drawn by both", twice, "M1@5", "M1@0", "A", "M1@5" },
+    { "one byte, drawn by the first and held by the second", twice, "M1@5", "H1@5", "A", "M1@5" },
+    { "one byte, held by the first and drawn by the second", twice, "H1@5", "M1@5", "A", "H1@5" },
+    /* Both draw each byte: the first list decides. */
+    { "from different places", twice, "M5@0", "M5@5", "ABCDE", "M5@0" },
+    { "from different places, in the other order", twice, "M5@5", "M5@0", "ABCDE", "M5@5" },
+    { "all held by the second alone", twice, "M5@0", "H5@0", "ABCDE", "M5@0" },
+    { "all held by the first alone", twice, "H5@0", "M5@0", "ABCDE", "H5@0" },
+    { "all held by both, from different places", twice, "H5@5", "H5@0", "ABCDE", "H5@5" },
+    { "marks that change places", twice, "M2@0 H3@2", "H2@0 M3@2", "ABCDE", "M2@0 H3@2" },
+    { "two matches over one", twice, "M2@0 M3@7", "M5@0", "ABCDE", "M2@0 M3@7" },
+    { "one match over two", twice, "M5@0", "M2@5 M3@2", "ABCDE", "M5@0" },
+    { "one match over five records", twice, "M5@5", "M1@0 N1 H1@2 N1 M1@4", "ABCDE", "M5@5" },
+    { "cuts that cross", twice, "M2@0 M3@7", "M3@5 M2@3", "ABCDE", "M2@0 M3@7" },
+    /* One list draws. */
+    { "the second alone", twice, "N5", "M5@5", "ABCDE", "M5@5" },
+    { "the second alone, held", twice, "N5", "H5@5", "ABCDE", "H5@5" },
+    { "the second alone, with two marks", twice, "N5", "M2@0 H3@2", "ABCDE", "M2@0 H3@2" },
+    { "the first alone, with two marks", twice, "M2@0 H3@2", "N5", "ABCDE", "M2@0 H3@2" },
+    { "a run of the second under a new record", twice, "N5", "M1@0 M1@1 M1@2 M1@3 M1@4", "ABCDE", "M5@0" },
+    { "a run of the first over a new record", twice, "M1@0 M1@1 M1@2 M1@3 M1@4", "N5", "ABCDE", "M5@0" },
+    { "a match under five new records", twice, "N1 N1 N1 N1 N1", "M5@0", "ABCDE", "M5@0" },
+    { "a held match under five new records", twice, "N1 N1 N1 N1 N1", "H5@0", "ABCDE", "H5@0" },
+    { "a match across new records", twice, "N2 N2 N2", "N1 M4@1 N1", "0BCDE1", "N1 M4@1 N1" },
+    { "matches that do not go on, under a new record", twice, "N6", "M2@0 M2@0 M2@5", "ABABAB", "M2@0 M2@0 M2@5" },
+    { "matches that do not go on, over a new record", twice, "M2@0 M2@0 M2@5", "N6", "ABABAB", "M2@0 M2@0 M2@5" },
+    /* New in both. */
+    { "new records, cut differently", twice, "N1 N2 N3", "N2 N2 N2", "012345", "N6" },
+    { "one new record and six", twice, "N6", "N1 N1 N1 N1 N1 N1", "012345", "N6" },
+    { "six new records and one", twice, "N1 N1 N1 N1 N1 N1", "N6", "012345", "N6" },
+    { "new around a match of the first", twice, "N2 M2@0 N2", "N6", "01AB23", "N2 M2@0 N2" },
+    { "new around a match of the second", twice, "N6", "N2 M2@0 N2", "01AB23", "N2 M2@0 N2" },
+    { "new around a match of the second, loose", twice, "N2 N2", "N1 M2@0 N1", "0AB1", "N1 M2@0 N1" },
+    { "a new byte between matches that go on", twice, "M2@0 N4", "N3 M3@2", "AB0CDE", "M2@0 N1 M3@2" },
+    { "a new byte between a held match and a match", twice, "N3 M3@2", "H2@0 N4", "AB0CDE", "H2@0 N1 M3@2" },
+    { "new at both ends", twice, "N1 M2@0 N3", "N3 M2@2 N1", "0ABCD1", "N1 M4@0 N1" },
+    { "a match at the size of the new record before it", twice, "N2 M2@2", "N4", "01CD", "N2 M2@2" },
+    { "a match of the second at the size of the new record before it", twice, "N4", "N2 M2@2", "01CD", "N2 M2@2" },
+    { "new, then a match at 0", twice, "N4", "N2 M2@0", "01AB", "N2 M2@0" },
+    { "a match at 0, then new", twice, "M2@0 N2", "N4", "AB01", "M2@0 N2" },
+    /* A match of the second that the first covers in part. */
+    { "its front covered", twice, "M2@5 N3", "M5@0", "ABCDE", "M2@5 M3@2" },
+    { "its end covered", twice, "N3 M2@8", "M5@0", "ABCDE", "M3@0 M2@8" },
+    { "its middle covered", twice, "N2 M1@7 N2", "M5@0", "ABCDE", "M2@0 M1@7 M2@3" },
+    { "its ends covered", twice, "M1@5 N3 M1@9", "M5@0", "ABCDE", "M1@5 M3@1 M1@9" },
+    { "all but its last byte covered", twice, "M4@5 N1", "M5@0", "ABCDE", "M4@5 M1@4" },
+    { "all but its first byte covered", twice, "N1 M4@6", "M5@0", "ABCDE", "M1@0 M4@6" },
+    { "each second byte covered", twice, "M1@5 N1 M1@7 N1 M1@9", "M5@0", "ABCDE", "M1@5 M1@1 M1@7 M1@3 M1@9" },
+    { "its front covered, held", twice, "M2@5 N3", "H5@0", "ABCDE", "M2@5 H3@2" },
+    { "its front covered by a held one", twice, "H2@5 N3", "M5@0", "ABCDE", "H2@5 M3@2" },
+    { "its front covered, both held", twice, "H2@5 N3", "H5@0", "ABCDE", "H2@5 H3@2" },
+    { "its middle covered, held", twice, "N2 M1@7 N2", "H5@0", "ABCDE", "H2@0 M1@7 H2@3" },
+    { "its middle covered by a held one", twice, "N2 H1@7 N2", "M5@0", "ABCDE", "M2@0 H1@7 M2@3" },
+    { "its middle covered by two", twice, "N1 M1@6 H1@7 N2", "M5@0", "ABCDE", "M1@0 M1@6 H1@7 M2@3" },
+    { "its middle covered, between loose new records", twice, "N1 N1 M1@7 N1 N1", "M5@0", "ABCDE", "M2@0 M1@7 M2@3" },
+    { "a record covered, and the front of the next", twice, "M3@5 N4", "M2@0 M5@2", "ABCDEAB", "M3@5 M4@3" },
+    { "the end of a record covered, and the next", twice, "N1 M4@6 N2", "M2@0 M3@2 M2@5", "ABCDEAB", "M1@0 M4@6 M2@5" },
+    { "the end of a record covered, and the front of the next", twice, "N1 M2@6 N2", "M2@0 M3@2", "ABCDE", "M1@0 M2@6 M2@3" },
+    { "many records covered", twice, "M5@5 N1", "M1@0 N1 H1@2 M1@3 N1 M1@11", "ABCDEY", "M5@5 M1@11" },
+    { "many records covered, and a match that goes on behind them", twice, "M5@5 N2", "M1@0 N1 H1@2 M1@3 N1 M2@10", "ABCDEXY", "M7@5" },
+    { "both lists cut at one place", twice, "M2@0 N3", "M2@5 M3@7", "ABCDE", "M2@0 M3@7" },
+    { "an end that both have, behind a cut", twice, "N2 M3@7", "M5@0", "ABCDE", "M2@0 M3@7" },
+    { "the second's front new", twice, "M2@0 N3", "N1 M4@6", "ABCDE", "M2@0 M3@7" },
+    { "the second's end new", twice, "N3 M2@3", "M4@5 N1", "ABCDE", "M3@5 M2@3" },
+    /* Parts of both lists that go on in each other. */
+    { "the rest goes on", twice, "M2@0 N3", "M5@0", "ABCDE", "M5@0" },
+    { "the front goes on", twice, "N3 M2@3", "M5@0", "ABCDE", "M5@0" },
+    { "both sides go on", twice, "N2 M1@2 N2", "M5@0", "ABCDE", "M5@0" },
+    { "the middle goes on", twice, "M1@0 N3 M1@4", "M5@0", "ABCDE", "M5@0" },
+    { "byte by byte in turns", twice, "M1@0 N1 M1@2 N1 M1@4", "N1 M1@1 N1 M1@3 N1", "ABCDE", "M5@0" },
+    { "a run of the first and one of the second", twice, "M1@0 M1@1 N3", "N2 M1@2 M2@3", "ABCDE", "M5@0" },
+    { "all the store, in turns", twice, "N4 M4@4 N4", "M4@0 N4 M4@8", twice, "M12@0" },
+    { "two runs of both lists", twice, "M2@0 N3 M1@7 N2", "N2 M3@2 N1 M2@8", "ABCDECDE", "M5@0 M3@7" },
+    { "held, byte by byte in turns", twice, "H1@0 N1 H1@2 N1 H1@4", "N1 H1@1 N1 H1@3 N1", "ABCDE", "H5@0" },
+    { "held in turns", twice, "H1@0 N1 H1@2 N1 H1@4", "N1 M1@1 N1 M1@3 N1", "ABCDE", "H1@0 M1@1 H1@2 M1@3 H1@4" },
+    { "held, and the rest goes on without the mark", twice, "H2@0 N3", "M5@0", "ABCDE", "H2@0 M3@2" },
+    { "not held, and the rest goes on with the mark", twice, "M2@0 N3", "H5@0", "ABCDE", "M2@0 H3@2" },
+    { "held in the middle of a match", twice, "N2 H1@2 N2", "M5@0", "ABCDE", "M2@0 H1@2 M2@3" },
+    { "not held in the middle of a held match", twice, "N2 M1@2 N2", "H5@0", "ABCDE", "H2@0 M1@2 H2@3" },
+    { "a held run of both, then a match", twice, "H2@0 N3", "N2 H1@2 M2@3", "ABCDE", "H3@0 M2@3" },
+    { "the same bytes from another place behind them", twice, "M2@0 N2", "N2 M2@7", "ABCD", "M2@0 M2@7" },
+    { "from a byte too far on", twice, "M2@0 N2", "N2 M2@3", "ABDE", "M2@0 M2@3" },
+    { "from a byte too near", twice, "M2@0 N2", "N2 M2@1", "ABBC", "M2@0 M2@1" },
+    { "from the same address", twice, "M2@0 N2", "N2 M2@0", "ABAB", "M2@0 M2@0" },
+    { "before the one before it", twice, "N2 M2@0", "M2@2 N2", "CDAB", "M2@2 M2@0" },
+    { "in turns from different places", twice, "M1@0 N1 M1@2 N1 M1@4", "N1 M1@6 N1 M1@8 N1", "ABCDE", "M1@0 M1@6 M1@2 M1@8 M1@4" },
+    /* Loose lists. */
+    { "loose in both", twice, "N1 N1 M1@0 M1@1 N1 N1", "N1 N1 N1 N1 M1@7 N1", "01ABC2", "N2 M2@0 M1@7 N1" },
+    { "loose in both, cut differently", twice, "N1 N2 M2@3 N2", "N2 N1 N2 M1@8 M1@9", "012DEDE", "N3 M2@3 M2@8" },
+    { "loose in both, nothing but bytes", twice, "N1 N1 N1 M1@3 N1 N1", "N1 M1@1 N1 N1 N1 M1@5", "0B1D2A", "N1 M1@1 N1 M1@3 N1 M1@5" },
+};
+
+/* Two lists of the version, one of which may be the pooled list, give what is wanted, in an area just as long. */
+static void expect_back(const struct pooling *p, const char *how, size_t n, size_t m, const uint8_t *wanted, size_t due)
+{
+    char what[112];
+    snprintf(what, sizeof what, "%s, %s", p->what, how);
+    expect("pool", what, wrote_pooled(pooled(n, m, p->version, p->store, due), wanted, due));
+}
+
+/* Pooled with itself, or with a list without a match in either order, a list gives what tidy writes of it. */
+static void expect_own_form(const struct pooling *p, const char *text)
+{
+    uint8_t wanted[AREA];
+    const size_t n = list_of(text, list), whole = strlen(p->version), m = whole > 0 ? RECORD_BYTES : 0;
+    tidied(n, p->store, strlen(p->store), n);
+    const size_t due = RECORD_BYTES * (size_t)answer_entries(answer);
+    memcpy(wanted, list_area, due);
+    list_of(text, second);
+    expect_back(p, "one of the lists with itself", n, n, wanted, due);
+    put_record(second, 0, KIND_NEW, (uint32_t)whole, 0);
+    expect_back(p, "one of the lists before one without a match", n, m, wanted, due);
+    list_of(text, second), put_record(list, 0, KIND_NEW, (uint32_t)whole, 0);
+    expect_back(p, "one of the lists behind one without a match", m, n, wanted, due);
+}
+
+/* In areas too short, just as long, and longer. What was written comes back where it is handed in twice, where the first list stands before it, and
+ * where either stands behind it. */
+static void test_pools(void)
+{
+    char what[112];
+    uint8_t wanted[AREA];
+    for (size_t i = 0; i < sizeof pools / sizeof *pools; i++) {
+        const struct pooling *p = &pools[i];
+        const size_t n = list_of(p->first, list), m = list_of(p->second, second), due = list_of(p->pooled, wanted);
+        const size_t rooms[] = { 0, due - RECORD_BYTES, due - 1, due, due + 1, due + RECORD_BYTES, AREA };
+        for (size_t k = due > 0 ? 0 : 3; k < sizeof rooms / sizeof *rooms; k++) {
+            const uint32_t number = pooled(n, m, p->version, p->store, rooms[k]);
+            snprintf(what, sizeof what, "%s, %zu bytes in an area of %zu", p->what, due, rooms[k]);
+            expect("pool", what, rooms[k] < due ? refused_pool(number, 9, 0) : wrote_pooled(number, wanted, due));
+        }
+        memcpy(second, wanted, due);
+        expect_back(p, "the first before what was written", n, due, wanted, due);
+        memcpy(list, wanted, due);
+        expect_back(p, "what was written, twice", due, due, wanted, due);
+        list_of(p->first, second);
+        expect_back(p, "the first behind what was written", due, n, wanted, due);
+        list_of(p->second, second);
+        expect_back(p, "the second behind what was written", due, m, wanted, due);
+        expect_own_form(p, p->first);
+        expect_own_form(p, p->second);
+    }
+}
+
+/* A list of ABCDEX at fault, over ABCDEABCDEXY. */
+#define ABCDEX "ABCDEX"
+static const struct {
+    const char *what, *list;
+    uint32_t number, place;
+} bad_pools[] = {
+    { "kind 2", "X6@0", 4, 0 },
+    { "kind 2 behind a match", "M1@0 X5@0", 4, 1 },
+    { "kind 255", "M1@0 M4@1!0=255 N1", 4, 1 },
+    { "kind 2 with the mark", "M1@0 X5@0!1=1", 4, 1 },
+    { "a mark on a new record", "M5@0 N1!1=1", 4, 1 },
+    { "a mark on a new record after a new one", "N1 N5!1=1", 4, 1 },
+    { "byte 1 of a new record", "N6!1", 4, 0 },
+    { "byte 2 of a new record", "M5@0 N1!2", 4, 1 },
+    { "byte 3 of a new record", "N1 N5!3", 4, 1 },
+    { "byte 1 of a match at 2", "N1 M4@1!1=2 N1", 4, 1 },
+    { "byte 1 of a match at 255", "N1 M4@1!1=255 N1", 4, 1 },
+    { "byte 2 of a match", "N1 M4@1!2 N1", 4, 1 },
+    { "byte 3 of a match", "N1 M4@1!3 N1", 4, 1 },
+    { "byte 2 of a held match", "N1 H4@1!2 N1", 4, 1 },
+    { "byte 3 of a held match", "N1 H4@1!3 N1", 4, 1 },
+    { "a new record of size 0", "N0", 4, 0 },
+    { "a new record of size 0 after a new one", "N6 N0", 4, 1 },
+    { "a match of size 0", "M5@0 N1 M0@0", 4, 2 },
+    { "a held match of size 0", "H0@0 N6", 4, 0 },
+    { "new with address 1", "N1@1 N5", 4, 0 },
+    { "new with address 256", "N1 N5@256", 4, 1 },
+    { "new with address 65536", "M5@0 N1@65536", 4, 1 },
+    { "new with address 16777216", "N6@16777216", 4, 0 },
+    { "4 at the last of six", "N1 N1 N1 N1 N1 N1@1", 4, 5 },
+    { "one record a byte too long", "N7", 6, 0 },
+    { "one match a byte too long", "M7@5", 6, 0 },
+    { "one byte too many", "M5@0 N2", 6, 1 },
+    { "one new record too many", "M5@0 N1 N1", 6, 2 },
+    { "one match too many", "N6 M1@0", 6, 1 },
+    { "one held match too many", "M6@5 H1@0", 6, 1 },
+    { "a record as long as the longest version", "N1 N16777215", 6, 1 },
+    { "sizes that pass 2^32", "N1 N4294967295", 6, 1 },
+    { "sizes that pass 2^32 and end at 6", "N6 N4294967290 N6", 6, 1 },
+    { "6 at the second of three", "N1 N6 N1", 6, 1 },
+    { "a match beyond the store", "N1 M5@8", 7, 1 },
+    { "a held match beyond the store", "H6@7", 7, 0 },
+    { "a match behind the store", "M5@0 M1@12", 7, 1 },
+    { "address 4294967295", "M6@4294967295", 7, 0 },
+    { "address and size together 2^32", "M6@4294967290", 7, 0 },
+    { "a first byte that differs", "M1@1 N5", 8, 0 },
+    { "a first byte that differs, held", "H1@1 N5", 8, 0 },
+    { "a last byte that differs", "M6@0", 8, 0 },
+    { "a second match that differs", "M2@0 M4@3", 8, 1 },
+    { "a last match that differs", "N1 M4@1 M1@11", 8, 2 },
+    { "a held last match that differs", "N5 H1@11", 8, 1 },
+    { "no records for a version", "", 6, 0 },
+    { "one byte too few", "M5@0", 6, 1 },
+    { "one new byte too few", "N5", 6, 1 },
+    { "three bytes too few", "N1 N1 N1", 6, 3 },
+    { "one byte too few in two matches", "M1@0 M4@1", 6, 2 },
+    { "4 before 6", "N7!2", 4, 0 },
+    { "4 before 7", "M6@7!2", 4, 0 },
+    { "4 before 8", "M6@0!2", 4, 0 },
+    { "6 before 7", "M7@4294967295", 6, 0 },
+    { "6 before 8", "M1@0 M6@0", 6, 1 },
+    { "7 before 8", "M2@11 N4", 7, 0 },
+    { "6 at 0 before 4 at 1", "N7 N0", 6, 0 },
+    { "7 at 0 before 4 at 1", "M1@12 N0", 7, 0 },
+    { "8 at 0 before 4 at 1", "M1@1 N0", 8, 0 },
+    { "8 at 0 before 6 at 1", "M1@1 N6", 8, 0 },
+    { "8 at 0 before 7 at 1", "M1@1 M5@8", 8, 0 },
+    { "8 at 1 before the short end", "M1@0 M1@3", 8, 1 },
+    { "7 at 1 before the short end", "M1@0 M1@12", 7, 1 },
+    { "4 at 1 before the short end", "N1 N0", 4, 1 },
+};
+
+/* Lists that stand beside one at fault: sound ones, and such as are at fault otherwise than the first of the two. */
+static const char *const sound_beside[] = { "N6", "M5@0 N1", "N1 N1 M3@7 N1" };
+static const char *const bad_beside[] = { "N0", "N1 N1 N1 N1 N1 N1 N1", "N5 M1@12", "M5@0 M1@11", "N1 N1 N1 N1 N1", "" };
+
+/* The fault of the first list is said whatever the second is, that of the second where the first is sound; 9 comes behind both. */
+static void test_bad_pools(void)
+{
+    const size_t rooms[] = { AREA, 0 };
+    char what[112];
+    for (size_t i = 0; i < sizeof bad_pools / sizeof *bad_pools; i++)
+        for (size_t k = 0; k < 2; k++) {
+            const uint32_t number = bad_pools[i].number, place = bad_pools[i].place;
+            size_t n = list_of(bad_pools[i].list, list), m = list_of(bad_pools[i].list, second);
+            snprintf(what, sizeof what, "%s in both, in an area of %zu", bad_pools[i].what, rooms[k]);
+            expect("pool", what, refused_pool(pooled(n, m, ABCDEX, twice, rooms[k]), number, place));
+            for (size_t b = 0; b < sizeof sound_beside / sizeof *sound_beside; b++) {
+                n = list_of(bad_pools[i].list, list), m = list_of(sound_beside[b], second);
+                snprintf(what, sizeof what, "%s in the first, in an area of %zu", bad_pools[i].what, rooms[k]);
+                expect("pool", what, refused_pool(pooled(n, m, ABCDEX, twice, rooms[k]), number, place));
+                n = list_of(sound_beside[b], list), m = list_of(bad_pools[i].list, second);
+                snprintf(what, sizeof what, "%s in the second, in an area of %zu", bad_pools[i].what, rooms[k]);
+                expect("pool", what, refused_pool(pooled(n, m, ABCDEX, twice, rooms[k]), number, place));
+            }
+            n = list_of(bad_pools[i].list, list);
+            for (size_t b = 0; b < sizeof bad_beside / sizeof *bad_beside; b++) {
+                m = list_of(bad_beside[b], second);
+                snprintf(what, sizeof what, "%s before %s, in an area of %zu", bad_pools[i].what, bad_beside[b], rooms[k]);
+                expect("pool", what, refused_pool(pooled(n, m, ABCDEX, twice, rooms[k]), number, place));
+            }
+        }
+}
+
+/* The refused rows of clause 10.11, but for the areas too short; 13 bytes are the first ones of two records. */
+static const struct {
+    const char *what, *first, *second, *version;
+    size_t second_length;
+    uint32_t number, place;
+} worked_refusals[] = {
+    { "7 at 1 of the first before 4 at 0 of the second", "M2@0 M3@3", "N0", "ABABC", 12, 7, 1 },
+    { "the short end of the first before 3 of the second", "M2@0 N2", "N5 N5", "ABABC", 13, 6, 2 },
+    { "3 of the second", "M5@0", "N5 N5", "ABABC", 13, 3, 0 },
+    { "8 at 1 of the second", "N5", "M2@0 M3@2", "ABABZ", 24, 8, 1 },
+    { "the short end of the second", "M5@0", "N2 N2", "ABABC", 24, 6, 2 },
+    { "6 at 1 of the second", "M5@0", "M5@0 N1", "ABABC", 24, 6, 1 },
+};
+
+/* 3 of either list, in an area of any length: the first's before all that the second has, the second's behind all that the first has. */
+static void test_pool_lengths(void)
+{
+    const size_t lengths[] = { 1, 11, 13, 23, 25 }, rooms[] = { 0, 12, AREA };
+    char what[112];
+    for (size_t k = 0; k < sizeof rooms / sizeof *rooms; k++) {
+        for (size_t i = 0; i < sizeof worked_refusals / sizeof *worked_refusals; i++) {
+            const size_t n = list_of(worked_refusals[i].first, list), m = worked_refusals[i].second_length;
+            list_of(worked_refusals[i].second, second);
+            snprintf(what, sizeof what, "%s, over ABABC in an area of %zu", worked_refusals[i].what, rooms[k]);
+            expect("pool", what, refused_pool(pooled(n, m, worked_refusals[i].version, ababc, rooms[k]), worked_refusals[i].number,
+                worked_refusals[i].place));
+        }
+        for (size_t i = 0; i < sizeof lengths / sizeof *lengths; i++)
+            for (int sound = 0; sound < 2; sound++) {
+                list_of(sound ? "N2 N2 N2" : "N0 N0 N0", list), list_of(sound ? "N2 N2 N2" : "N0 N0 N0", second);
+                snprintf(what, sizeof what, "%zu bytes, %s records, in an area of %zu", lengths[i], sound ? "sound" : "malformed", rooms[k]);
+                expect("pool, the first", what, refused_pool(pooled(lengths[i], 36, ABCDEX, twice, rooms[k]), 3, 0));
+                expect("pool, both", what, refused_pool(pooled(lengths[i], lengths[i], ABCDEX, twice, rooms[k]), 3, 0));
+                list_of("N2 N2 N2", list);
+                expect("pool, the second", what, refused_pool(pooled(36, lengths[i], ABCDEX, twice, rooms[k]), 3, 0));
+                expect("pool, the short end before the second", what, refused_pool(pooled(24, lengths[i], ABCDEX, twice, rooms[k]), 6, 2));
+                list_of("N2 N2 M2@0", list);
+                expect("pool, 8 before the second", what, refused_pool(pooled(36, lengths[i], ABCDEX, twice, rooms[k]), 8, 2));
+            }
+    }
+}
+
+/* An answer area of 31 bytes, or none, is said before anything else; 32 are enough. Areas that are only read may be the same. */
+static void test_pool_areas(void)
+{
+    const uint8_t *bytes = (const uint8_t *)twice;
+    uint8_t wanted[AREA];
+    char what[80];
+    const size_t n = list_of("M2@0 N4", list), m = list_of("N2 M3@2 N1", second), due = list_of("M5@0 N1", wanted);
+    for (size_t less = 1; less <= ANSWER_BYTES; less += ANSWER_BYTES - 1)
+        for (int sound = 0; sound < 2; sound++) {
+            snprintf(what, sizeof what, "an answer area of %zu bytes%s", ANSWER_BYTES - less, sound ? "" : " before 3");
+            fill_areas();
+            expect("pool", what, not_made(pool(list, sound ? n : 11, second, m, (const uint8_t *)ABCDEX, 6, bytes, 12, list_area, AREA, answer,
+                ANSWER_BYTES - less)));
+        }
+    fill_areas();
+    memcpy(list_before, list, AREA), memcpy(second_before, second, AREA);
+    expect("pool", "an answer area of 32 bytes", wrote_pooled(pool(list, n, second, m, (const uint8_t *)ABCDEX, 6, bytes, 12, list_area, AREA, answer,
+        ANSWER_BYTES), wanted, due));
+    list_of("M5@0 M7@5", list), list_of("M12@0", wanted);
+    memcpy(list_before, list, AREA);
+    fill_areas();
+    expect("pool", "one list twice, and the store as the version", wrote(pool(list, 24, list, 24, bytes, 12, bytes, 12, list_area, AREA, answer,
+        ANSWER_BYTES), wanted, RECORD_BYTES));
+}
+
+/* ---- Partition, estimate, commit, pass, pool and compare: one byte that differs, at each position ---- */
 
 enum { LONGEST = 136, WORD = 8 };
 
@@ -1490,6 +1856,18 @@ static int finds(call *made, struct stretch t)
         && holds(block_area, version_bytes, made == estimated ? 0 : t.offset) && holds(area, "", 0) && handed_stays();
 }
 
+/* The same of pool, where the list stands before one without a match, or behind it: the list comes back. */
+static int finds_pooled(struct stretch t, int behind)
+{
+    const size_t n = set_stretch(t), whole = t.offset + t.size, m = whole > 0 ? RECORD_BYTES : 0;
+    put_record(second, 0, KIND_NEW, (uint32_t)whole, 0);
+    memcpy(list_before, list, AREA);
+    fill_areas();
+    const uint32_t number = pool(behind ? second : list, behind ? m : n, behind ? list : second, behind ? n : m, version_bytes, whole, store_bytes,
+                                 sizeof store_bytes, list_area, AREA, answer, sizeof answer);
+    return t.differs < t.size ? refused_loose(number, 8, t.offset > 0) : wrote(number, list, n);
+}
+
 /* Whether compare says so, in both orders, of so many records of the list with two stored blocks. */
 static int tells_blocks(size_t records, const uint8_t *block, const uint8_t *other, size_t stored, uint32_t same)
 {
@@ -1529,7 +1907,7 @@ static void test_stretches(void)
 {
     char what[80];
     for (uint32_t size = 0; size <= LONGEST; size++) {
-        int by_partition = 1, by_estimate = 1, by_commit = 1, by_pass = 1, by_compare = 1;
+        int by_partition = 1, by_estimate = 1, by_commit = 1, by_pass = 1, by_pool = 1, by_compare = 1;
         for (uint32_t place = 0; place < WORD * WORD; place++)
             for (uint32_t differs = 0; differs <= size; differs++) {
                 const struct stretch t = { size, place / WORD, place % WORD, differs };
@@ -1537,6 +1915,7 @@ static void test_stretches(void)
                 by_estimate &= finds(estimated, t);
                 by_commit &= finds(committed, t);
                 by_pass &= finds(pass, t);
+                by_pool &= finds_pooled(t, 0) && finds_pooled(t, 1);
                 by_compare &= tells(t);
             }
         snprintf(what, sizeof what, "a byte that differs in a stretch of %u", (unsigned)size);
@@ -1544,6 +1923,7 @@ static void test_stretches(void)
         expect("estimate", what, by_estimate);
         expect("commit", what, by_commit);
         expect("pass", what, by_pass);
+        expect("pool", what, by_pool);
         expect("compare", what, by_compare);
     }
 }
@@ -2107,6 +2487,278 @@ static void test_greatest_loose(void)
     free(loose.list), free(loose.wanted), free(loose.out), free(loose.store);
 }
 
+/* ---- Pool: the greatest sizes ---- */
+
+/* Two lists of up to 4,096 records, of 16,777,216 bytes of 0; the list that should be written; and the area, with room for all cuts of both lists. */
+static struct {
+    uint8_t *first, *second, *wanted, *out, *version, *store;
+} pair_of;
+
+enum { MOST_OUT = 2 * LENGTH };
+
+static uint32_t great_pool(size_t length, size_t second_length, size_t room)
+{
+    fill_areas();
+    memset(pair_of.out, FILL, MOST_OUT);
+    return pool(pair_of.first, length, pair_of.second, second_length, pair_of.version, VERSION_MOST, pair_of.store, VERSION_MOST, pair_of.out, room,
+                answer, sizeof answer);
+}
+
+/* So many records of both lists give so many wanted ones: in an area just as long, and in the longest. In one that is a byte shorter they are refused. */
+static void expect_great_pool(const char *what, uint32_t records, uint32_t second_records, uint32_t entries)
+{
+    const size_t n = RECORD_BYTES * records, m = RECORD_BYTES * second_records, due = RECORD_BYTES * entries, rooms[] = { due - 1, due, MOST_OUT };
+    char in_room[112];
+    for (size_t k = 0; k < 3; k++) {
+        const uint32_t number = great_pool(n, m, rooms[k]);
+        const size_t written = rooms[k] < due ? 0 : due;
+        snprintf(in_room, sizeof in_room, "%s, %zu bytes in an area of %zu", what, due, rooms[k]);
+        expect("pool", in_room, (written == 0 ? refused(number, 9, 0) : answered(number, (struct values){ .entries = entries }) && untouched())
+            && memcmp(pair_of.out, pair_of.wanted, written) == 0 && all_are(pair_of.out + written, MOST_OUT - written, FILL));
+    }
+}
+
+/* So many bytes of both lists are refused, whatever the area. */
+static void expect_no_great_pool(const char *what, size_t length, size_t second_length, uint32_t number, uint32_t place)
+{
+    const size_t rooms[] = { 0, LENGTH - 1, LENGTH, LENGTH + RECORD_BYTES, MOST_OUT };
+    char in_room[112];
+    for (size_t k = 0; k < sizeof rooms / sizeof *rooms; k++) {
+        snprintf(in_room, sizeof in_room, "%s, in an area of %zu", what, rooms[k]);
+        expect("pool", in_room, refused(great_pool(length, second_length, rooms[k]), number, place) && all_are(pair_of.out, MOST_OUT, FILL));
+    }
+}
+
+/* So many records of equal size, a new one and a match in turns, or the other way; a match goes on from where the one before it would, or it does not,
+ * being 3 bytes on for each record. */
+static void put_in_turns(uint8_t *to, uint32_t records, char even, char odd, int going_on)
+{
+    const uint32_t size = VERSION_MOST / records, step = going_on ? size : 3;
+    for (uint32_t i = 0; i < records; i++) {
+        const char as = i % 2 ? odd : even;
+        put_beside(to, i, as, size, as == 'N' ? 0 : step * i);
+    }
+}
+
+/* 4,096 records of both lists that give one, or as many: area and answer go by the pooled list alone. */
+static void test_pooled_turns(void)
+{
+    put_in_turns(pair_of.first, RECORDS_MOST, 'N', 'M', 1), put_in_turns(pair_of.second, RECORDS_MOST, 'M', 'N', 1);
+    put_beside(pair_of.wanted, 0, 'M', VERSION_MOST, 0);
+    expect_great_pool("4,096 records in turns and as many, going on", RECORDS_MOST, RECORDS_MOST, 1);
+    put_in_turns(pair_of.second, RECORDS_MOST, 'M', 'M', 1);
+    expect_great_pool("4,096 records in turns and 4,096 matches, going on", RECORDS_MOST, RECORDS_MOST, 1);
+    put_beside(pair_of.second, 0, 'M', PART / 2, 0);
+    for (uint32_t i = 1; i < RECORDS_MOST; i++)
+        put_beside(pair_of.second, i, 'M', i < RECORDS_MOST - 1 ? PART : PART + PART / 2, PART * i - PART / 2);
+    expect_great_pool("4,096 records in turns and 4,096 matches, by cuts that cross", RECORDS_MOST, RECORDS_MOST, 1);
+    put_in_turns(pair_of.first, RECORDS_MOST, 'N', 'H', 1), put_in_turns(pair_of.second, RECORDS_MOST, 'H', 'N', 1);
+    put_beside(pair_of.wanted, 0, 'H', VERSION_MOST, 0);
+    expect_great_pool("4,096 held records in turns and as many, going on", RECORDS_MOST, RECORDS_MOST, 1);
+    put_in_turns(pair_of.first, RECORDS_MOST, 'N', 'N', 0), put_in_turns(pair_of.second, RECORDS_MOST, 'N', 'N', 0);
+    put_beside(pair_of.wanted, 0, 'N', VERSION_MOST, 0);
+    expect_great_pool("4,096 new records and as many", RECORDS_MOST, RECORDS_MOST, 1);
+    put_in_turns(pair_of.first, RECORDS_MOST, 'N', 'H', 1), put_in_turns(pair_of.second, RECORDS_MOST, 'M', 'M', 1);
+    put_in_turns(pair_of.wanted, RECORDS_MOST, 'M', 'H', 1);
+    expect_great_pool("4,096 records in turns, held, and as many, not held", RECORDS_MOST, RECORDS_MOST, RECORDS_MOST);
+    put_in_turns(pair_of.first, RECORDS_MOST, 'M', 'M', 0), put_in_turns(pair_of.second, RECORDS_MOST, 'H', 'H', 1);
+    put_in_turns(pair_of.wanted, RECORDS_MOST, 'M', 'M', 0);
+    expect_great_pool("4,096 matches over as many", RECORDS_MOST, RECORDS_MOST, RECORDS_MOST);
+    put_in_turns(pair_of.first, RECORDS_MOST, 'N', 'M', 0), put_beside(pair_of.second, 0, 'N', VERSION_MOST, 0);
+    put_in_turns(pair_of.wanted, RECORDS_MOST, 'N', 'M', 0);
+    expect_great_pool("4,096 records in turns, and a new one", RECORDS_MOST, 1, RECORDS_MOST);
+    put_beside(pair_of.first, 0, 'N', VERSION_MOST, 0), put_in_turns(pair_of.second, RECORDS_MOST, 'N', 'M', 0);
+    expect_great_pool("a new record, and 4,096 in turns", 1, RECORDS_MOST, RECORDS_MOST);
+    put_beside(pair_of.first, 0, 'M', VERSION_MOST, 0), put_beside(pair_of.wanted, 0, 'M', VERSION_MOST, 0);
+    expect_great_pool("a match, and 4,096 in turns", 1, RECORDS_MOST, 1);
+}
+
+/* A list of 4,096 records in turns; a match of one byte at the front of its first new record makes one record more, and so does one at the end of its
+ * last. One that takes the place of the whole new record makes none. */
+static void test_one_too_many(void)
+{
+    put_in_turns(pair_of.first, RECORDS_MOST, 'N', 'M', 0);
+    put_beside(pair_of.second, 0, 'M', 1, 9000000), put_beside(pair_of.second, 1, 'N', VERSION_MOST - 1, 0);
+    expect_no_great_pool("4,097 records, by the first byte", LENGTH, 2 * RECORD_BYTES, 13, 0);
+    put_beside(pair_of.second, 0, 'N', VERSION_MOST - PART - 1, 0), put_beside(pair_of.second, 1, 'H', 1, 9000000);
+    put_beside(pair_of.second, 2, 'N', PART, 0);
+    expect_no_great_pool("4,097 records, by the last new byte", LENGTH, 3 * RECORD_BYTES, 13, 0);
+    put_beside(pair_of.second, 0, 'M', PART, 9000000), put_beside(pair_of.second, 1, 'N', VERSION_MOST - PART, 0);
+    put_in_turns(pair_of.wanted, RECORDS_MOST, 'N', 'M', 0), put_beside(pair_of.wanted, 0, 'M', PART, 9000000);
+    expect_great_pool("4,096 records, of which the second draws one", RECORDS_MOST, 2, RECORDS_MOST);
+    put_beside(pair_of.second, 0, 'M', PART - 1, 9000000), put_beside(pair_of.second, 1, 'M', 1, 9000000 + PART - 1);
+    put_beside(pair_of.second, 2, 'N', VERSION_MOST - PART, 0);
+    expect_great_pool("4,096 records, and 4,097 stretches", RECORDS_MOST, 3, RECORDS_MOST);
+    put_beside(pair_of.second, 1, 'M', 1, 9000000 + PART);
+    expect_no_great_pool("4,097 records, by a match that does not go on", LENGTH, 3 * RECORD_BYTES, 13, 0);
+    put_beside(pair_of.second, 1, 'H', 1, 9000000 + PART - 1);
+    expect_no_great_pool("4,097 records, by a mark", LENGTH, 3 * RECORD_BYTES, 13, 0);
+}
+
+/* The first list in turns; the second of matches that do not go on, cut so many times, always within a new record of the first, 1,000 bytes on each time.
+ * So each cut is one of the pooled list. The second list has one record more than cuts. */
+static void put_cuts(uint32_t records, uint32_t cuts)
+{
+    const uint32_t size = VERSION_MOST / records, news = records / 2;
+    uint32_t from = 0, j = 0;
+    put_in_turns(pair_of.first, records, 'N', 'M', 0);
+    for (uint32_t k = 0; k < news; k++)
+        for (uint32_t c = 0; c < cuts / news + (k < cuts % news); c++) {
+            const uint32_t to = 2 * k * size + 1000 * (c + 1);
+            put_beside(pair_of.second, j, 'M', to - from, 5000000 + 7 * j);
+            from = to, j++;
+        }
+    put_beside(pair_of.second, j, 'M', VERSION_MOST - from, 7 * j);
+}
+
+/* 2,048 records and 2,048 cuts: of each new record three parts. The first part is the end of a match of the second list that began 2,000 bytes into the
+ * new record before, but for the very first. */
+static void want_cuts(void)
+{
+    const uint32_t size = VERSION_MOST / 2048;
+    for (uint32_t k = 0; k < 1024; k++) {
+        put_beside(pair_of.wanted, 4 * k, 'M', 1000, 5000000 + 7 * (2 * k) + (k == 0 ? 0 : 2 * size - 2000));
+        put_beside(pair_of.wanted, 4 * k + 1, 'M', 1000, 5000000 + 7 * (2 * k + 1));
+        put_beside(pair_of.wanted, 4 * k + 2, 'M', size - 2000, (k < 1023 ? 5000000 : 0) + 7 * (2 * k + 2));
+        put_beside(pair_of.wanted, 4 * k + 3, 'M', size, 3 * (2 * k + 1));
+    }
+}
+
+static void test_many_cuts(void)
+{
+    put_cuts(2048, 2048), want_cuts();
+    expect_great_pool("2,048 records and 2,049, of which 4,096 are left", 2048, 2049, RECORDS_MOST);
+    put_cuts(2048, 2049);
+    expect_no_great_pool("2,048 records and 2,050, of which 4,097 are left", 2048 * RECORD_BYTES, 2050 * RECORD_BYTES, 13, 0);
+    put_cuts(RECORDS_MOST, RECORDS_MOST - 1);
+    expect_no_great_pool("4,096 records and 4,096, of which 8,191 are left", LENGTH, LENGTH, 13, 0);
+}
+
+/* 13 comes behind every check of both lists, 9 behind 13; 2 before them. The pooled list would have 4,097 records or more. */
+static void test_before_13(void)
+{
+    const size_t three = 3 * RECORD_BYTES;
+    uint8_t *const last = pair_of.first + LENGTH - RECORD_BYTES;
+    put_in_turns(pair_of.first, RECORDS_MOST, 'N', 'M', 0);
+    put_beside(pair_of.second, 0, 'M', 1, 9000000), put_beside(pair_of.second, 1, 'N', VERSION_MOST - 2, 0), put_beside(pair_of.second, 2, 'M', 1, 0);
+    expect_no_great_pool("13", LENGTH, three, 13, 0);
+    put_beside(pair_of.second, 2, 'N', 0, 0);
+    expect_no_great_pool("4 at the end of the second before 13", LENGTH, three, 4, 2);
+    put_beside(pair_of.second, 2, 'N', 2, 0);
+    expect_no_great_pool("6 at the end of the second before 13", LENGTH, three, 6, 2);
+    put_beside(pair_of.second, 2, 'M', 1, VERSION_MOST);
+    expect_no_great_pool("7 at the end of the second before 13", LENGTH, three, 7, 2);
+    put_beside(pair_of.second, 2, 'M', 1, VERSION_MOST - 1);
+    expect_no_great_pool("8 at the end of the second before 13", LENGTH, three, 8, 2);
+    expect_no_great_pool("the short end of the second before 13", LENGTH, three - RECORD_BYTES, 6, 2);
+    expect_no_great_pool("3 of the second before 13", LENGTH, three - 1, 3, 0);
+    put_beside(last, 0, 'M', PART, VERSION_MOST - PART);
+    expect_no_great_pool("8 at the end of the first before 8 of the second", LENGTH, three, 8, RECORDS_MOST - 1);
+    put_beside(last, 0, 'M', PART, VERSION_MOST - PART + 1);
+    expect_no_great_pool("7 at the end of the first before the short end of the second", LENGTH, three - RECORD_BYTES, 7, RECORDS_MOST - 1);
+    expect_no_great_pool("the short end of the first before 3 of the second", LENGTH - RECORD_BYTES, three - 1, 6, RECORDS_MOST - 1);
+    expect_no_great_pool("49,151 bytes of the first", LENGTH - 1, three, 3, 0);
+    expect_no_great_pool("49,164 bytes of the first", LENGTH + RECORD_BYTES, three, 3, 0);
+    put_in_turns(pair_of.first, RECORDS_MOST, 'N', 'M', 0);
+    expect_no_great_pool("49,151 bytes of the second", LENGTH, LENGTH - 1, 3, 0);
+    expect_no_great_pool("49,164 bytes of the second", LENGTH, LENGTH + RECORD_BYTES, 3, 0);
+}
+
+/* 2 by the version, with lists that are sound but for its last byte, before everything else. */
+static void test_pool_of_long_version(void)
+{
+    const struct { const char *what; size_t length, second_length; } lists[] = {
+        { "a version of 16,777,217 bytes", LENGTH, LENGTH }, { "2 before 3 of the first", LENGTH - 1, LENGTH },
+        { "2 before 3 of the second", LENGTH, LENGTH - 1 }, { "2 before the short end", RECORD_BYTES, RECORD_BYTES }, { "2 with no records", 0, 0 },
+    };
+    put_in_turns(pair_of.first, RECORDS_MOST, 'N', 'M', 0), put_in_turns(pair_of.second, RECORDS_MOST, 'N', 'M', 0);
+    for (size_t i = 0; i < sizeof lists / sizeof *lists; i++)
+        for (size_t room = 0; room <= LENGTH; room += LENGTH) {
+            fill_areas();
+            memset(pair_of.out, FILL, MOST_OUT);
+            expect("pool", lists[i].what, refused(pool(pair_of.first, lists[i].length, pair_of.second, lists[i].second_length, pair_of.version,
+                VERSION_MOST + 1, pair_of.store, VERSION_MOST, pair_of.out, room, answer, sizeof answer), 2, 0) && all_are(pair_of.out, MOST_OUT, FILL));
+        }
+}
+
+/* The last byte of the store alone is not 0. */
+static void test_greatest_pools(void)
+{
+    pair_of.first = memory(LENGTH + RECORD_BYTES), pair_of.second = memory(LENGTH + RECORD_BYTES), pair_of.wanted = memory(LENGTH);
+    pair_of.out = memory(MOST_OUT), pair_of.version = memory((size_t)VERSION_MOST + 1), pair_of.store = memory(VERSION_MOST);
+    hand("");
+    test_pooled_turns();
+    pair_of.store[VERSION_MOST - 1] = 1;
+    test_one_too_many();
+    test_many_cuts();
+    test_before_13();
+    test_pool_of_long_version();
+    free(pair_of.first), free(pair_of.second), free(pair_of.wanted), free(pair_of.out), free(pair_of.version), free(pair_of.store);
+}
+
+/* Over the longest store, of zeros, with a version of so many: the rest of a match has an address and a size that take one byte of the field more, and
+ * parts of both lists go on across such a place. */
+static const struct {
+    const char *what, *first, *second;
+    size_t version;
+    const char *pooled;
+} far_pools[] = {
+    { "a rest from 256 on", "M2@1000 N3", "M5@254", 5, "M2@1000 M3@256" },
+    { "a rest from 65,536 on", "M2@1000 N3", "M5@65534", 5, "M2@1000 M3@65536" },
+    { "a rest from 16,777,216 on", "M2@1000 N3", "M5@16777214", 5, "M2@1000 M3@16777216" },
+    { "a rest to the end of the store", "M2@1000 N3", "H5@268435451", 5, "M2@1000 H3@268435453" },
+    { "the last byte of the store", "M4@1000 N1", "M5@268435451", 5, "M4@1000 M1@268435455" },
+    { "the last bytes of the store", "N3 M2@1000", "M5@268435451", 5, "M3@268435451 M2@1000" },
+    { "going on across 256", "M2@254 N3", "N2 M3@256", 5, "M5@254" },
+    { "going on across 65,536", "N2 M3@65536", "M2@65534 N3", 5, "M5@65534" },
+    { "going on across 16,777,216", "M2@16777214 N3", "M1@0 N1 M3@16777216", 5, "M5@16777214" },
+    { "going on to the end of the store", "H2@268435451 N3", "N2 H3@268435453", 5, "H5@268435451" },
+    { "256 apart", "M2@254 N3", "N2 M3@0", 5, "M2@254 M3@0" },
+    { "65,536 apart", "M2@65534 N3", "N2 M3@0", 5, "M2@65534 M3@0" },
+    { "16,777,216 apart", "M2@16777214 N3", "N2 M3@0", 5, "M2@16777214 M3@0" },
+    { "256 bytes covered", "M256@1000000 N256", "M512@0", 512, "M256@1000000 M256@256" },
+    { "65,536 bytes covered", "M65536@1000000 N65536", "M131072@0", 131072, "M65536@1000000 M65536@65536" },
+    { "8,388,608 bytes covered", "M8388608@0 N8388608", "M16777216@251658240", VERSION_MOST, "M8388608@0 M8388608@260046848" },
+    { "sizes of 256 in two", "M255@0 N1", "N255 M1@255", 256, "M256@0" },
+    { "sizes of 65,536 in halves", "M32768@0 N32768", "N32768 M32768@32768", 65536, "M65536@0" },
+    { "sizes of 16,777,216 in halves", "M8388608@0 N8388608", "N8388608 M8388608@8388608", VERSION_MOST, "M16777216@0" },
+    { "sizes of 16,777,216, new in two", "N16777215 N1", "N1 N16777215", VERSION_MOST, "N16777216" },
+    { "one match of 16,777,216, drawn by the second", "N16777216", "M16777216@251658240", VERSION_MOST, "M16777216@251658240" },
+    { "one match of 16,777,216, held by the first", "H16777216@251658240", "M16777216@0", VERSION_MOST, "H16777216@251658240" },
+};
+
+/* 7 for a byte beyond the longest store in either list; 2 for a store that is longer, before 3 of either, 4 and 9. */
+static void test_far_pools(const uint8_t *store)
+{
+    uint8_t wanted[AREA];
+    const size_t over = (size_t)STORE_MOST + 1;
+    for (size_t i = 0; i < sizeof far_pools / sizeof *far_pools; i++) {
+        const size_t n = list_of(far_pools[i].first, list), m = list_of(far_pools[i].second, second), due = list_of(far_pools[i].pooled, wanted);
+        memcpy(list_before, list, AREA), memcpy(second_before, second, AREA);
+        fill_areas();
+        expect("pool", far_pools[i].what, wrote_pooled(pool(list, n, second, m, store, far_pools[i].version, store, STORE_MOST, list_area, due, answer,
+            sizeof answer), wanted, due));
+    }
+    for (int in_second = 0; in_second < 2; in_second++) {
+        list_of(in_second ? "N5" : "M5@268435452", list), list_of(in_second ? "M5@268435452" : "N5", second);
+        fill_areas();
+        expect("pool", "a byte beyond the longest store", refused(pool(list, 12, second, 12, store, 5, store, STORE_MOST, list_area, AREA, answer,
+            sizeof answer), 7, 0));
+        const size_t lengths[] = { 12, 11 }, rooms[] = { AREA, 0 };
+        for (size_t k = 0; k < 4; k++) {
+            const size_t n = in_second ? 12 : lengths[k / 2], m = in_second ? lengths[k / 2] : 12;
+            fill_areas();
+            expect("pool", "a store of 268,435,457 bytes", refused(pool(list, n, second, m, store, 5, store, over, list_area, rooms[k % 2], answer,
+                sizeof answer), 2, 0));
+        }
+    }
+    list_of("N0", list), list_of("N0", second);
+    fill_areas();
+    expect("pool", "2 before 4", refused(pool(list, 12, second, 12, store, 5, store, over, list_area, AREA, answer, sizeof answer), 2, 0));
+    fill_areas();
+    expect("pool", "2 with no records", refused(pool(list, 0, second, 0, store, 0, store, over, list_area, 0, answer, sizeof answer), 2, 0));
+}
+
 static void test_greatest_store(void)
 {
     uint8_t *huge = memory((size_t)STORE_MOST + 1), block[10] = { 0 };
@@ -2157,6 +2809,7 @@ static void test_greatest_store(void)
     expect("tidy", "2 before 3 and 9", refused_loose(tidied(13, (const char *)huge, over, 0), 2, 0));
     expect("check_loose", "2 with no records", refused_loose(checked_loose(0, (const char *)huge, over), 2, 0));
     expect("tidy", "2 with no records", refused_loose(tidied(0, (const char *)huge, over, 0), 2, 0));
+    test_far_pools(huge);
     free(huge);
 }
 
@@ -2180,11 +2833,16 @@ int main(void)
     test_loose_lists();
     test_bad_loose();
     test_loose_lengths();
+    test_pools();
+    test_bad_pools();
+    test_pool_lengths();
+    test_pool_areas();
     test_stretches();
     test_greatest_lists();
     test_greatest_choices();
     test_unread_store();
     test_greatest_loose();
+    test_greatest_pools();
     test_greatest_store();
     printf("calls: %d cases of %d, %d wrong\n", cases, CASES, wrong);
     return cases != CASES || wrong != 0;

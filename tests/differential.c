@@ -16,23 +16,28 @@
  * of a list, but for 5, 10 and 11, and tidy what check_loose says, but for 9; a list cut into loose pieces has the tidy form of the list; what tidy
  * wrote has the origins of the loose list, leaves nothing to join, comes back from tidy, is sound for check with the loose list's stored block, and
  * rebuilds what that list stands for; two loose lists have the same tidy form exactly where each byte has the same origin; what partition, commit and
- * pass wrote comes back from tidy, and a commitment with every match kept writes what tidy writes.
+ * pass wrote comes back from tidy, and a commitment with every match kept writes what tidy writes. Pool refuses each list as it does that list with
+ * itself, the first list first, and that as partition does, but for 5; then by the records of the pooled list. What it wrote draws each byte as the first
+ * list does, else as the second, and stores no more than either; it comes back from tidy, is sound for check with the version's bytes under its new
+ * records, rebuilds the version, and is accepted by partition. A list with itself, and with one without a match, gives its tidy form.
  *
  * In order: the calls; chance; the areas; fields; reports; one comparison; the laws; choices to commit; one case; valid inputs; second lists;
- * damage; loose lists; the cases; the table. Not here: NULL for an empty area, which controller.h does not allow.
+ * damage; loose lists; pools; the cases; the table. Not here: NULL for an empty area, which controller.h does not allow.
  *
  *   differential [seed]
  *
- * The same seed gives the same inputs. Exit 0 where nothing differs, each number of docs/SPECIFICATION.md, section 5, for each list of compare, and each kind of
- * price below was reached, 4 also for a mark on a new record and for byte 1 over 1 on a match, 12 for each of its five causes, each kind of choice
- * was judged by commit and stood behind another fault, and choices were committed that cost more than the estimate's, and as much, a match and a
- * stored stretch differed in one byte at each pair of places within a word, of the pairs of different lists that compare accepted a third or more
- * have the same bytes from the same places and are cut differently, a third or more have the same bytes from other places, by kind, by address and by
- * mark, and some other bytes, in the stored blocks alone, as one list ends first, and else, partition, commit and pass each kept every match of
- * a list and gave one up, of neighbouring matches two in five or more go on in the store and as many do not, about a third of the matches are held,
- * and about a third of those that go on have another mark, marks were flipped, a short list would have been cheaper with a held match stored, calls
- * were made without the marks, accepted and refused, of two loose lists two in five or more have the same origins and as many have not, loose lists
- * had new records side by side and matches to join, and an area was too short for a loose list though its tidy form fits; else 1.
+ * The same seed gives the same inputs. Exit 0 where nothing differs, each number of docs/SPECIFICATION.md, section 5, for each list of compare and of
+ * pool, and each kind of price below was reached, 4 also for a mark on a new record and for byte 1 over 1 on a match, 12 for each of its five causes,
+ * each kind of choice was judged by commit and stood behind another fault, and choices were committed that cost more than the estimate's, and as
+ * much, a match and a stored stretch differed in one byte at each pair of places within a word, of the pairs of different lists that compare accepted
+ * a third or more have the same bytes from the same places and are cut differently, a third or more have the same bytes from other places, by kind,
+ * by address and by mark, and some other bytes, in the stored blocks alone, as one list ends first, and else, partition, commit and pass each kept
+ * every match of a list and gave one up, of neighbouring matches two in five or more go on in the store and as many do not, about a third of the
+ * matches are held, and about a third of those that go on have another mark, marks were flipped, a short list would have been cheaper with a held
+ * match stored, calls were made without the marks, accepted and refused, of two loose lists two in five or more have the same origins and as many
+ * have not, loose lists had new records side by side and matches to join, and an area was too short for a loose list though its tidy form fits, of
+ * the pairs of sound lists to pool a quarter or more have bytes that only the first draws, as many such that only the second draws, and as many such
+ * that both draw but otherwise, and each other kind of such pairs (finding_name) was there; else 1.
  */
 #define _DEFAULT_SOURCE
 #include <inttypes.h>
@@ -47,15 +52,17 @@
 
 /* ---- The calls ---- */
 
-/* The calls; and, in the table, compare where the second list is at fault. */
-enum { MEASURE, REBUILD, CHECK, COMPARE, CHECK_LOOSE, TIDY, PARTITION, ESTIMATE, COMMIT, PASS, CALLS, SECOND_AT_FAULT = CALLS, ROWS };
+/* The calls; and, in the table, compare and pool where the second list is at fault. */
+enum {
+    MEASURE, REBUILD, CHECK, COMPARE, CHECK_LOOSE, TIDY, POOL, PARTITION, ESTIMATE, COMMIT, PASS, CALLS, COMPARE_SECOND = CALLS, POOL_SECOND, ROWS
+};
 
 static const char *const call_name[ROWS] = {
-    "measure", "rebuild", "check", "compare", "check_loose", "tidy", "partition", "estimate", "commit", "pass", "  second",
+    "measure", "rebuild", "check", "compare", "check_loose", "tidy", "pool", "partition", "estimate", "commit", "pass", "compare 2nd", "pool 2nd",
 };
 
 /* How many of each case. */
-enum { SMALL_CASES = 1000000, MIDDLE_CASES = 8000, FULL_CASES = 60, BRUTE_RECORDS = 10, STRETCH_CASES = 14 };
+enum { SMALL_CASES = 1000000, MIDDLE_CASES = 8000, FULL_CASES = 60, BRUTE_RECORDS = 10, STRETCH_CASES = 14, RECORD_CASES = 20 };
 
 /* ---- Chance ---- */
 
@@ -128,6 +135,7 @@ static const unsigned lent[CALLS] = {
     1u << ANSWER,
     1u << ANSWER,
     1u << LIST | 1u << ANSWER,
+    1u << LIST | 1u << ANSWER,
     1u << CHOICE | 1u << LIST | 1u << BLOCK | 1u << ANSWER,
     1u << CHOICE | 1u << ANSWER,
     1u << LIST | 1u << BLOCK | 1u << ANSWER,
@@ -137,8 +145,8 @@ static const unsigned lent[CALLS] = {
 /* The areas of the second partition and of the laws. */
 static uint8_t *law_choice, *law_list, *law_block, *law_whole, *law_second, *law_second_whole;
 
-/* Two loose lists, the tidy form of one, and a list without its marks. */
-static uint8_t *loose_bytes, *other_loose_bytes, *law_tidy, *bare_bytes;
+/* Two loose lists, the tidy form of one, a list without its marks, and one without its matches. */
+static uint8_t *loose_bytes, *other_loose_bytes, *law_tidy, *bare_bytes, *fresh_bytes;
 
 /* What partition wrote, for the estimate and the commitment. */
 static uint8_t *kept_choice, *kept_list, *kept_block;
@@ -173,6 +181,7 @@ static void make_room(void)
     kept_choice = room_for(RECORDS_MOST), kept_list = room_for(list_most), kept_block = room_for(VERSION_MOST);
     handed_bytes = room_for(RECORDS_MOST), handed_copy = room_for(RECORDS_MOST);
     loose_bytes = room_for(list_most), other_loose_bytes = room_for(list_most), law_tidy = room_for(list_most), bare_bytes = room_for(list_most);
+    fresh_bytes = room_for(list_most);
     for (int a = 0; a < AREAS; a++)
         for (int side = 0; side < SIDES; side++)
             areas[a].bytes[side] = room_for(areas[a].most);
@@ -383,6 +392,9 @@ static uint32_t run(int call, int side, const struct input *in)
     case TIDY:
         return (library ? tidy : ref_tidy)(in->list, in->list_len, in->store, in->store_len, area(LIST, side), in->list_area_len,
                                            answer, in->answer_len);
+    case POOL:
+        return (library ? pool : ref_pool)(in->list, in->list_len, in->second, in->second_len, in->version, in->version_len, in->store, in->store_len,
+                                           area(LIST, side), in->list_area_len, answer, in->answer_len);
     case PARTITION:
         return (library ? partition : ref_partition)(in->en, in->em, in->f, in->list, in->list_len, in->version, in->version_len,
                                                      in->store, in->store_len, area(CHOICE, side), in->choice_len,
@@ -437,12 +449,13 @@ static void same_area(int call, int which, const struct input *in)
 }
 
 /* The columns of the table: numbers 0 to 11, 6 at the short end, 9 for the answer area, 4 for nothing but a mark on a new record, or for nothing but
- * byte 1 over 1 on a match, and 12 by its causes: a choice too short or too long, a byte over 1, a new record kept, a held match stored. */
-enum { SHORT_END = 12, SHORT_ANSWER, MARKED_NEW, OVER_ONE, CHOICE_SHORT, CHOICE_LONG, CHOICE_OVER, CHOICE_NEW, CHOICE_HELD, COLUMNS };
+ * byte 1 over 1 on a match, 12 by its causes: a choice too short or too long, a byte over 1, a new record kept, a held match stored; and 13. */
+enum { SHORT_END = 12, SHORT_ANSWER, MARKED_NEW, OVER_ONE, CHOICE_SHORT, CHOICE_LONG, CHOICE_OVER, CHOICE_NEW, CHOICE_HELD, TOO_MANY, COLUMNS };
 static const struct { const char *name, *where; int number; } special[COLUMNS - SHORT_END] = {
     { "6 end", " at the short end", 6 }, { "9 ans", " for the answer area", 9 }, { "4 mark", " for a mark on a new record", 4 },
     { "4 over", " for byte 1 over 1 on a match", 4 }, { "12 less", " for a choice too short", 12 }, { "12 more", " for a choice too long", 12 },
     { "12 over", " for a byte over 1", 12 }, { "12 new", " for a new record kept", 12 }, { "12 held", " for a held match stored", 12 },
+    { "13", "", 13 },
 };
 static uint64_t compared[ROWS], reached[ROWS][COLUMNS];
 
@@ -460,6 +473,28 @@ static int first_is_sound(void)
     return given[REBUILD].number == ACCEPTED || given[REBUILD].number == AREA_TOO_SHORT;
 }
 
+/* Whether a number is one that a list gets from pool, and not the lengths of version, store or area, nor the pooled list. */
+static int is_of_list(uint32_t number)
+{
+    return number >= BAD_LIST_LENGTH && number <= MISMATCH;
+}
+
+/* Whether the reference, pooling the first list with itself in no area, finds no fault in it. */
+static int first_is_poolable(const struct input *in)
+{
+    uint8_t answer[ANSWER_BYTES];
+    return !is_of_list(ref_pool(in->list, in->list_len, in->list, in->list_len, in->version, in->version_len, in->store, in->store_len, answer, 0, answer,
+                                sizeof answer));
+}
+
+/* Whether a call refused its second list. */
+static int second_at_fault(int call, const struct input *in)
+{
+    if (in->answer_len < ANSWER_BYTES || given[call].number == ACCEPTED)
+        return 0;
+    return (call == COMPARE && first_is_sound()) || (call == POOL && is_of_list(given[POOL].number) && first_is_poolable(in));
+}
+
 /* The column of number 12: by the length, else by the byte at the place. */
 static uint32_t choice_column(const struct input *in, uint32_t place)
 {
@@ -473,15 +508,16 @@ static uint32_t choice_column(const struct input *in, uint32_t place)
 static void tally(int call, const struct input *in)
 {
     const struct given *g = &given[call];
-    const int second = call == COMPARE && g->number != ACCEPTED && in->answer_len >= ANSWER_BYTES && first_is_sound();
-    const int row = second ? SECOND_AT_FAULT : call;
+    const int second = second_at_fault(call, in), row = !second ? call : call == COMPARE ? COMPARE_SECOND : POOL_SECOND;
     uint32_t column = g->number;
-    if (g->number == BAD_SIZES && g->place == records(in) && call >= PARTITION)
+    if (g->number == BAD_SIZES && g->place == (second ? in->second_len : in->list_len) / RECORD_BYTES && call >= POOL)
         column = SHORT_END;
     if (g->number == BAD_CHOICE)
         column = choice_column(in, g->place);
     if (g->number == MALFORMED_RECORD)
         column = malformed_column(record(second ? in->second : in->list, g->place));
+    if (g->number == TOO_MANY_RECORDS)
+        column = TOO_MANY;
     if (in->answer_len < ANSWER_BYTES)
         column = SHORT_ANSWER;
     compared[row]++;
@@ -885,7 +921,7 @@ static uint32_t rebuild_into(uint8_t *version, struct listed a, const struct inp
 }
 
 /* Where each byte comes from: 0 where it is new, else twice its address, its mark, and 2. */
-static uint64_t origins[2][ROOM];
+static uint64_t origins[3][ROOM];
 
 /* The origins by a sound list; how many bytes it covers, or one more than there is room for. */
 static size_t write_origins(uint64_t *to, const uint8_t *list, size_t list_len)
@@ -1257,6 +1293,7 @@ static void try_input(const struct input *in)
             law_of_marks(call, in, &unmarked);
     }
     law_of_check_loose(in);
+    try_call(POOL, in);
     if (in->answer_len >= ANSWER_BYTES)
         law_of_judging(in);
     if (given[COMPARE].number == ACCEPTED) {
@@ -1934,10 +1971,9 @@ static void law_of_refusal(const struct input *in)
     short_for_loose += too_short && c->number == ACCEPTED && RECORD_BYTES * tidy_into(law_tidy, in->list, in->list_len, in) <= in->list_area_len;
 }
 
-/* Whether a record of a list goes with the one before it: both are new, or it goes on from that with the same mark. */
-static int goes_with(const uint8_t *r)
+/* Whether a record goes with one that stands before it: both are new, or it goes on from that with the same mark. */
+static int goes_with(const uint8_t *b, const uint8_t *r)
 {
-    const uint8_t *b = r - RECORD_BYTES;
     if (r[0] == 0 || b[0] == 0)
         return r[0] == b[0];
     return r[1] == b[1] && (uint64_t)get32(b + 8) + get32(b + 4) == get32(r + 8);
@@ -1951,11 +1987,11 @@ static void law_of_neighbours(const struct input *in)
     if (!same_answers(&given[TIDY], &(struct given){ .entries = given[TIDY].entries }))
         differ(TIDY, "gives more than the number of records", in);
     for (size_t i = 1; i < records(in); i++)
-        *(record(in->list, i)[0] == 0 ? &new_pairs : &match_pairs) += goes_with(record(in->list, i));
+        *(record(in->list, i)[0] == 0 ? &new_pairs : &match_pairs) += goes_with(record(in->list, i - 1), record(in->list, i));
     side_by_side += new_pairs > 0;
     unjoined += match_pairs > 0;
     for (size_t i = 1; i < given[TIDY].entries; i++)
-        if (goes_with(written + RECORD_BYTES * i))
+        if (goes_with(written + RECORD_BYTES * (i - 1), written + RECORD_BYTES * i))
             differ(TIDY, "the tidy form has neighbours that should be one", in);
 }
 
@@ -1984,21 +2020,25 @@ static size_t copy_loose(const struct input *in, const uint8_t *block, uint8_t *
     return whole;
 }
 
-/* With the loose list's stored block, check accepts the tidy form at each record, or of many at some, and at no other; and it rebuilds what the loose
- * list stands for. */
-static void law_of_block(const struct input *in)
+/* Check accepts what a call wrote, with this stored block, at each record, or of many at some, and at no other. */
+static void law_of_each_record(int call, struct listed a, const struct input *in)
 {
     uint8_t answer[ANSWER_BYTES];
-    const uint8_t *written = area(LIST, LIBRARY);
-    const uint32_t n = given[TIDY].entries, step = n < 64 ? 1 : n / 8;
+    const uint32_t n = given[call].entries, step = n < 64 ? 1 : n / 8;
+    for (uint32_t k = 0; k < n; k += step)
+        if (check(a.list, a.list_len, a.block, a.block_len, in->store, in->store_len, k, answer, sizeof answer) != ACCEPTED)
+            differ(call, "check refuses the written list with its stored block", in);
+    if (check(a.list, a.list_len, a.block, a.block_len, in->store, in->store_len, n, answer, sizeof answer) != NO_SUCH_RECORD)
+        differ(call, "the written list has not the records that were answered", in);
+}
+
+/* With the loose list's stored block, check accepts the tidy form, and it rebuilds what the loose list stands for. */
+static void law_of_block(const struct input *in)
+{
     size_t stored;
     const size_t whole = copy_loose(in, block_bytes, law_whole, &stored);
-    const struct listed form = { written, RECORD_BYTES * n, block_bytes, stored };
-    for (uint32_t k = 0; k < n; k += step)
-        if (check(written, RECORD_BYTES * n, block_bytes, stored, in->store, in->store_len, k, answer, sizeof answer) != ACCEPTED)
-            differ(TIDY, "check refuses the tidy form with the stored block of the loose list", in);
-    if (check(written, RECORD_BYTES * n, block_bytes, stored, in->store, in->store_len, n, answer, sizeof answer) != NO_SUCH_RECORD)
-        differ(TIDY, "the tidy form has not the records that were answered", in);
+    const struct listed form = { area(LIST, LIBRARY), RECORD_BYTES * given[TIDY].entries, block_bytes, stored };
+    law_of_each_record(TIDY, form, in);
     if (rebuild_into(law_second_whole, form, in) != whole || memcmp(law_second_whole, law_whole, whole) != 0)
         differ(TIDY, "the tidy form rebuilds something else than the loose list stands for", in);
 }
@@ -2080,14 +2120,359 @@ static void try_loose(const struct input *in)
     law_of_pairs(&loose);
 }
 
+/* ---- Pools: two lists of a version, each cut into pieces and some of them drawn otherwise; whole or damaged ---- */
+
+/* What a pair of sound lists may have: a byte that only the first draws, or only the second; one that both draw, but otherwise; the rest of a match of the
+ * second, behind a part that the first covers, or before it; a record of the pooled list with bytes of both; parts of both that only the mark keeps
+ * from being one; over 4,096 stretches, but not so many records. And an area shorter than both lists, but long enough; or longer than both, but too
+ * short. */
+enum { BY_FIRST, BY_SECOND, OTHERWISE, REST_BEHIND, REST_BEFORE, OF_BOTH, PARTED, STRETCHES, SHORT_BUT_ENOUGH, LONG_BUT_SHORT, FINDINGS };
+static const char *const finding_name[FINDINGS] = {
+    "drawn by the first alone", "by the second alone", "by both, otherwise", "a rest behind a match of the first", "a rest before one", "a record of both",
+    "parted by the mark", "over 4,096 stretches", "in an area shorter than both lists", "too long for an area longer than both",
+};
+static uint64_t sound_pairs, findings[FINDINGS];
+
+/* A list as it is read: the record begun, and how many of its bytes were read. */
+struct reader {
+    const uint8_t *record;
+    uint32_t into;
+};
+
+static uint32_t rest_of(const struct reader *r)
+{
+    return get32(r->record + 4) - r->into;
+}
+
+static void read_on(struct reader *r, uint32_t part)
+{
+    r->into += part;
+    if (rest_of(r) == 0) {
+        r->record += RECORD_BYTES;
+        r->into = 0;
+    }
+}
+
+static uint32_t lesser(uint32_t a, uint32_t b)
+{
+    return a < b ? a : b;
+}
+
+/* A stretch of the version that neither list cuts, as a record of the pooled list, and whether the first list draws it. */
+struct stretch {
+    uint8_t as[RECORD_BYTES];
+    int of_first;
+};
+
+static struct stretch stretch_at(const struct reader *a, const struct reader *b, uint32_t size)
+{
+    const struct reader *from = a->record[0] == 1 ? a : b;
+    struct stretch s = { .of_first = from == a };
+    memcpy(s.as, from->record, RECORD_BYTES);
+    put32(s.as + 4, size);
+    if (s.as[0] == 1)
+        put32(s.as + 8, get32(from->record + 8) + from->into);
+    return s;
+}
+
+/* The stretches of a pair, the records of the pooled list, and what else is found. */
+struct found {
+    size_t stretches, records;
+    int has[FINDINGS];
+};
+
+/* Adds a stretch, where both lists were read so far, behind the one before it. */
+static void add_stretch(struct found *found, const struct stretch *before, const struct stretch *here, const struct reader *a, const struct reader *b)
+{
+    const int drawn = here->as[0] == 1, drawn_by_second = b->record[0] == 1, inner = found->stretches++ > 0;
+    const int along = inner && goes_with(before->as, here->as), turned = inner && before->of_first != here->of_first;
+    struct stretch marked = *here;
+    marked.as[1] = before->as[1];
+    found->records += !along;
+    found->has[BY_FIRST] |= here->of_first && !drawn_by_second;
+    found->has[BY_SECOND] |= !here->of_first && drawn;
+    found->has[OTHERWISE] |= here->of_first && drawn_by_second && other_origin(a->record, a->into, b->record, b->into) != SAME;
+    found->has[REST_BEHIND] |= turned && !here->of_first && drawn && b->into > 0;
+    found->has[REST_BEFORE] |= turned && here->of_first && drawn_by_second && b->into > 0;
+    found->has[OF_BOTH] |= turned && along;
+    found->has[PARTED] |= turned && !along && goes_with(before->as, marked.as);
+}
+
+/* Goes through two sound lists of one version. */
+static struct found look_at_pair(const struct input *in)
+{
+    struct found found = { 0 };
+    struct reader a = { in->list, 0 }, b = { in->second, 0 };
+    struct stretch before = { .of_first = 0 };
+    uint32_t part;
+    for (size_t left = in->version_len; left > 0; left -= part) {
+        part = lesser(rest_of(&a), rest_of(&b));
+        const struct stretch here = stretch_at(&a, &b, part);
+        add_stretch(&found, &before, &here, &a, &b);
+        before = here;
+        read_on(&a, part);
+        read_on(&b, part);
+    }
+    found.has[STRETCHES] = found.stretches > RECORDS_MOST && found.records <= RECORDS_MOST;
+    return found;
+}
+
+static struct given pool_into(uint8_t *to, size_t room, struct listed a, struct listed b, const struct input *in)
+{
+    uint8_t answer[ANSWER_BYTES];
+    const uint32_t number = pool(a.list, a.list_len, b.list, b.list_len, in->version, in->version_len, in->store, in->store_len, to, room, answer,
+                                 sizeof answer);
+    const struct given g = read_answer(answer);
+    if (g.number != number || !same_answers(&g, &(struct given){ .number = number, .place = g.place, .entries = g.entries }))
+        differ(POOL, "returned another number than it answered, or answered more than the records", in);
+    return g;
+}
+
+/* The fault of a list by itself: what pool says of it twice, in the longest area. It is partition's, but for 5. */
+static struct given fault_of(struct listed a, const struct input *in)
+{
+    uint8_t answer[ANSWER_BYTES];
+    const struct given own = pool_into(law_list, areas[LIST].most, a, a, in);
+    partition(1, 1, 1, a.list, a.list_len, in->version, in->version_len, in->store, in->store_len, law_choice, RECORDS_MOST, law_second, areas[LIST].most,
+              law_block, VERSION_MOST, answer, sizeof answer);
+    const struct given p = read_answer(answer);
+    if (p.number != ADJACENT_NEW_RECORDS && (own.number != p.number || own.place != p.place))
+        differ(POOL, "a list with itself is refused otherwise than by partition", in);
+    return own;
+}
+
+/* The first list's fault is answered, else the second's, else 13 and 9 by the records of the pooled list. */
+static void law_of_faults(const struct input *in)
+{
+    const struct given first = fault_of(first_of(in), in), second = fault_of(second_of(in), in), *g = &given[POOL];
+    const struct given *fault = first.number != ACCEPTED ? &first : &second;
+    if (fault->number != ACCEPTED) {
+        if (!same_answers(g, fault))
+            differ(POOL, "refused otherwise than by the fault of the first list, then of the second", in);
+        return;
+    }
+    struct found found = look_at_pair(in);
+    const size_t due = RECORD_BYTES * found.records;
+    const uint32_t number = found.records > RECORDS_MOST ? TOO_MANY_RECORDS : in->list_area_len < due ? AREA_TOO_SHORT : ACCEPTED;
+    if (!same_answers(g, &(struct given){ .number = number, .entries = number == ACCEPTED ? (uint32_t)found.records : 0 }))
+        differ(POOL, "answers otherwise than by the records of the pooled list", in);
+    found.has[SHORT_BUT_ENOUGH] = number == ACCEPTED && in->list_area_len < in->list_len && in->list_area_len < in->second_len;
+    found.has[LONG_BUT_SHORT] = number == AREA_TOO_SHORT && in->list_area_len > in->list_len && in->list_area_len > in->second_len;
+    for (int i = 0; i < FINDINGS; i++)
+        findings[i] += found.has[i] != 0;
+    sound_pairs++;
+}
+
+/* Stretch by stretch: the written list draws as the first does, else as the second; it ends with the version, and stores no more than either. */
+static void law_of_pooled_origins(const struct input *in)
+{
+    const uint8_t *end = area(LIST, LIBRARY) + RECORD_BYTES * given[POOL].entries;
+    struct reader a = { in->list, 0 }, b = { in->second, 0 }, w = { area(LIST, LIBRARY), 0 };
+    uint64_t stored[3] = { 0 };
+    uint32_t part;
+    for (size_t left = in->version_len; left > 0; left -= part) {
+        if (w.record == end)
+            differ(POOL, "the pooled list covers fewer bytes than the version", in);
+        part = lesser(lesser(rest_of(&a), rest_of(&b)), rest_of(&w));
+        const struct reader *from = a.record[0] == 1 ? &a : &b;
+        if (other_origin(from->record, from->into, w.record, w.into) != SAME)
+            differ(POOL, from == &a ? "a byte is not drawn as the first list says" : "a byte is not as the second list says", in);
+        stored[0] += a.record[0] == 0 ? part : 0;
+        stored[1] += b.record[0] == 0 ? part : 0;
+        stored[2] += w.record[0] == 0 ? part : 0;
+        read_on(&a, part);
+        read_on(&b, part);
+        read_on(&w, part);
+    }
+    if (w.record != end || stored[2] > stored[0] || stored[2] > stored[1])
+        differ(POOL, "the pooled list covers more bytes than the version, or stores more than one of the lists", in);
+}
+
+/* The same byte by byte, of short versions. */
+static void law_of_pooled_bytes(const struct input *in)
+{
+    if (in->version_len > ROOM)
+        return;
+    write_origins(origins[0], in->list, in->list_len);
+    write_origins(origins[1], in->second, in->second_len);
+    if (write_origins(origins[2], area(LIST, LIBRARY), RECORD_BYTES * given[POOL].entries) != in->version_len)
+        differ(POOL, "the pooled list has not the version's length", in);
+    for (size_t i = 0; i < in->version_len; i++)
+        if (origins[2][i] != (origins[0][i] != 0 ? origins[0][i] : origins[1][i]))
+            differ(POOL, "a byte has another origin than by the first list, else by the second", in);
+}
+
+/* The version's bytes under the new records of what pool wrote, into the block of the laws; their number. */
+static size_t take_stored(const struct input *in)
+{
+    size_t stored = 0, offset = 0;
+    for (size_t i = 0; i < given[POOL].entries; i++) {
+        const uint8_t *r = area(LIST, LIBRARY) + RECORD_BYTES * i;
+        const uint32_t size = get32(r + 4);
+        if (r[0] == 0) {
+            memcpy(law_block + stored, in->version + offset, size);
+            stored += size;
+        }
+        offset += size;
+    }
+    return stored;
+}
+
+/* With these bytes check accepts the written list, and it rebuilds the version; partition takes it at any price. */
+static void law_of_pooled_block(const struct input *in)
+{
+    uint8_t answer[ANSWER_BYTES];
+    struct input priced = *in;
+    const size_t stored = take_stored(in), len = RECORD_BYTES * given[POOL].entries;
+    const struct listed written = { area(LIST, LIBRARY), len, law_block, stored };
+    law_of_each_record(POOL, written, in);
+    if (rebuild_into(law_whole, written, in) != in->version_len || memcmp(law_whole, in->version, in->version_len) != 0)
+        differ(POOL, "the pooled list rebuilds another version", in);
+    draw_price(&priced);
+    if (partition(priced.en, priced.em, priced.f, written.list, len, in->version, in->version_len, in->store, in->store_len, law_choice,
+                  given[POOL].entries, law_list, len, law_block, in->version_len, answer, sizeof answer) != ACCEPTED)
+        differ(POOL, "partition refuses the pooled list", in);
+}
+
+/* A list without a match: one new record, or each record of another list as a new one. */
+static struct listed without_matches(struct listed a, const struct input *in)
+{
+    const int one = one_in(2);
+    const struct listed fresh = { fresh_bytes, one && in->version_len > 0 ? RECORD_BYTES : a.list_len, NULL, 0 };
+    memcpy(fresh_bytes, a.list, fresh.list_len);
+    for (uint8_t *r = fresh_bytes; r < fresh_bytes + fresh.list_len; r += RECORD_BYTES) {
+        r[0] = r[1] = 0;
+        put32(r + 4, one ? (uint32_t)in->version_len : get32(r + 4));
+        put32(r + 8, 0);
+    }
+    return fresh;
+}
+
+/* A sound list with itself, and with one without a match, in either order, gives its tidy form, in an area as long as that and in no shorter one. */
+static void law_of_own_form(struct listed a, const struct input *in)
+{
+    const struct listed form = tidied_of(a, law_tidy, in), fresh = without_matches(a, in), pairs[3][2] = { { a, a }, { a, fresh }, { fresh, a } };
+    for (int i = 0; i < 3; i++) {
+        const struct given g = pool_into(law_list, form.list_len, pairs[i][0], pairs[i][1], in);
+        if (g.number != ACCEPTED || RECORD_BYTES * g.entries != form.list_len || memcmp(law_list, form.list, form.list_len) != 0)
+            differ(POOL, i == 0 ? "a list with itself does not give its tidy form" : "a list with one without a match does not give its tidy form", in);
+        if (form.list_len > 0 && pool_into(law_list, form.list_len - 1, pairs[i][0], pairs[i][1], in).number != AREA_TOO_SHORT)
+            differ(POOL, "a list with itself, or with one without a match, is not refused in an area shorter than its tidy form", in);
+    }
+}
+
+/* A new record becomes a match, if the store has its bytes; a match becomes new, or gets the other mark, or is drawn from elsewhere. */
+static void vary_record(uint8_t *r, size_t offset, const struct input *in)
+{
+    const uint32_t size = get32(r + 4), way = below(4);
+    if (r[0] == 1 && r[1] <= 1) {
+        if (way == 0)
+            r[1] ^= 1;
+        else
+            put32(r + 8, way == 1 ? another_address(in, r) : 0);
+        if (way > 1)
+            r[0] = r[1] = 0;
+    } else if (r[0] == 0 && size <= in->version_len && offset < in->version_len - size) {
+        const size_t address = somewhere(in, offset);
+        if (address < in->store_len && alike(in, offset, address, size) == size) {
+            r[0] = 1;
+            r[1] = (uint8_t)one_in(3);
+            put32(r + 8, (uint32_t)address);
+        }
+    }
+}
+
+/* Varies the records of a list, none, all or some. */
+static void vary_list(uint8_t *list, size_t list_len, const struct input *in)
+{
+    const uint32_t of_8 = below(9);
+    size_t offset = 0;
+    for (uint8_t *r = list; r + RECORD_BYTES <= list + list_len; r += RECORD_BYTES) {
+        const uint32_t size = get32(r + 4);
+        if (below(8) < of_8)
+            vary_record(r, offset, in);
+        offset += size;
+    }
+}
+
+/* The same input with two lists of its version: the first list in pieces, and the first or the second, each varied. */
+static struct input pair_of(const struct input *in)
+{
+    struct input both = *in;
+    const int of_second = one_in(2);
+    both.list = loose_bytes;
+    both.list_len = cut_list(in->list, in->list_len, both.list);
+    both.second = other_loose_bytes;
+    both.second_len = cut_list(of_second ? in->second : in->list, of_second ? in->second_len : in->list_len, both.second);
+    vary_list(both.list, both.list_len, in);
+    vary_list(both.second, both.second_len, in);
+    return both;
+}
+
+/* A list area by the pooled list, as the reference has it: long enough, or in one case of four too short; of any length where there is no such list. */
+static size_t draw_room(const struct input *in)
+{
+    uint8_t answer[ANSWER_BYTES];
+    const uint32_t number = ref_pool(in->list, in->list_len, in->second, in->second_len, in->version, in->version_len, in->store, in->store_len, law_list,
+                                     areas[LIST].most, answer, sizeof answer);
+    const size_t due = RECORD_BYTES * (size_t)answer_entries(answer);
+    if (number != ACCEPTED)
+        return one_in(2) ? 0 : below(areas[LIST].most + 48);
+    return due > 0 && one_in(4) ? (one_in(2) ? due - 1 : below(due)) : due + extra();
+}
+
+/* Pools a pair, and holds what was written to the laws. */
+static void try_pair(struct input *both)
+{
+    both->list_area_len = draw_room(both);
+    const int accepted = try_call(POOL, both);
+    if (both->answer_len >= ANSWER_BYTES)
+        law_of_faults(both);
+    if (!accepted)
+        return;
+    law_of_pooled_origins(both);
+    law_of_pooled_bytes(both);
+    law_of_tidy(POOL, both);
+    law_of_pooled_block(both);
+    law_of_own_form(first_of(both), both);
+    law_of_own_form(second_of(both), both);
+}
+
+/* Breaks a record or the length of one of the lists, or the length of version or store; but no byte that the input has. */
+static void damage_pair(struct input *both)
+{
+    struct input seen = *both;
+    if (one_in(8)) {
+        damage_version_len(both);
+    } else if (one_in(2)) {
+        damage_loose(both);
+    } else {
+        seen.list = both->second;
+        seen.list_len = both->second_len;
+        damage_loose(&seen);
+        both->second_len = seen.list_len;
+    }
+}
+
+/* A pair of lists of an input, in one case of three damaged. */
+static void try_pool(const struct input *in)
+{
+    struct input both = pair_of(in);
+    if (one_in(3))
+        damage_pair(&both);
+    try_pair(&both);
+}
+
 /* ---- The cases ---- */
 
-/* One input for all calls; in one case of four its list in pieces. */
+/* One input for all calls; in one case of four its list in pieces, and in one of four a pair to pool. */
 static void try_case(const struct input *in)
 {
     try_input(in);
     if (one_in(4))
         try_loose(in);
+    if (one_in(4))
+        try_pool(in);
 }
 
 /* Goes on from a list to all lists that begin with it and have up to so many records more, with sizes up to a match and a new
@@ -2175,6 +2560,10 @@ static void try_stretch(uint32_t size, uint32_t differs)
             differ(call, "a match is judged otherwise than by its bytes", &in);
     if (given[COMPARE].number != ACCEPTED || given[COMPARE].entries != (number == ACCEPTED ? YES : NO))
         differ(COMPARE, "stored stretches are judged otherwise than by their bytes", &in);
+    const struct listed list = first_of(&in), none = without_matches(list, &in);
+    const struct given first = pool_into(law_list, areas[LIST].most, list, none, &in), second = pool_into(law_list, areas[LIST].most, none, list, &in);
+    if (first.number != number || first.place != place || second.number != number || second.place != place)
+        differ(POOL, "a match of one of the lists is judged otherwise than by its bytes", &in);
     if (number == MISMATCH) {
         differed[(uintptr_t)(in.version + fresh) % WORD][(uintptr_t)(in.store + address) % WORD]++;
         differed_stored[(uintptr_t)(in.block + fresh) % WORD][(uintptr_t)(in.second_block + fresh) % WORD]++;
@@ -2226,6 +2615,39 @@ static void full_cases(void)
         damage_some(&in);
         try_case(&in);
     }
+}
+
+/* Two lists of a version of one letter, of which the pooled list has so many records: the first has new records and matches in turns, of 8 bytes each,
+ * the second is cut within the new records alone. Its matches are held in turns, and draw from elsewhere: so every cut stays. */
+static void try_records(size_t target)
+{
+    const size_t least = target < 2 * RECORDS_MOST - 1 ? (target + 1) / 2 : RECORDS_MOST, most = target < RECORDS_MOST ? target : RECORDS_MOST;
+    const size_t n = (least + below(most - least + 1)) / 2 * 2, news = n / 2, cuts = target - n;
+    struct input in = empty_input(65536);
+    size_t from = 0;
+    fill_letters(in.store, in.store_len, 1);
+    in.held_of_3 = 0;
+    for (size_t i = 0; i < n; i++)
+        i % 2 == 0 ? append_new(&in, 8, 1) : append_match(&in, 8, below(100));
+    complete(&in);
+    in.second_len = 0;
+    for (size_t k = 0; k < news; k++)
+        for (size_t c = 1; c <= cuts / news + (k < cuts % news); c++, from = 16 * k + c - 1)
+            append_second_match(&in, 16 * k + c - from, 1000 + below(1000), in.second_len / RECORD_BYTES % 2);
+    append_second_match(&in, in.version_len - from, 1000 + below(1000), in.second_len / RECORD_BYTES % 2);
+    if (look_at_pair(&in).records != target)
+        differ(POOL, "the pooled list has not the records that it should have: the test is at fault", &in);
+    try_pair(&in);
+}
+
+/* Around 4,096 records of the pooled list, and up to the most. */
+static void pooled_records(void)
+{
+    const size_t targets[] = { RECORDS_MOST - 1, RECORDS_MOST, RECORDS_MOST + 1, RECORDS_MOST + 2, 2 * RECORDS_MOST - 1 };
+    case_kind = "records of the pooled list";
+    for (int i = 0; i < RECORD_CASES; i++)
+        for (size_t k = 0; k < sizeof targets / sizeof targets[0]; k++)
+            try_records(targets[k]);
 }
 
 /* 49,152 list bytes, a byte less and more, a record more. */
@@ -2369,19 +2791,22 @@ static void longest_full_case(uint32_t en, uint32_t em, uint32_t f)
 
 /* ---- The table ---- */
 
-/* The columns that each row must reach; a store that is too long is found with the first list. */
+/* The columns that each row must reach; a version or store that is too long is found with the first list, and what is wrong with the pooled list alone
+ * stands there too. */
 static const char *const required[ROWS] = {
-    "xx.xxxx......xxx.....",
-    "x.xxxxxx.xx..xxx.....",
-    "x.xxxxxx..xx.xxx.....",
-    "x.xxxxxx..x..xxx.....",
-    "x.xxx.xx.....xxx.....",
-    "x.xxx.xx.x...xxx.....",
-    "xxxxxxxxxx..xxxx.....",
-    "xxxxxxxxxx..xxxx.....",
-    "xxxxxxxxxx..xxxxxxxxx",
-    "xxxxxxxxxx..xxxx.....",
-    "...xxxxx..x...xx.....",
+    "xx.xxxx......xxx......",
+    "x.xxxxxx.xx..xxx......",
+    "x.xxxxxx..xx.xxx......",
+    "x.xxxxxx..x..xxx......",
+    "x.xxx.xx.....xxx......",
+    "x.xxx.xx.x...xxx......",
+    "x.xxx.xxxx..xxxx.....x",
+    "xxxxxxxxxx..xxxx......",
+    "xxxxxxxxxx..xxxx......",
+    "xxxxxxxxxx..xxxxxxxxx.",
+    "xxxxxxxxxx..xxxx......",
+    "...xxxxx..x...xx......",
+    "...xx.xxx...x.xx......",
 };
 
 static void print_differed(const char *what, uint64_t counts[WORD][WORD])
@@ -2421,6 +2846,14 @@ static void print_pairs(void)
     printf("\n");
 }
 
+static void print_pools(void)
+{
+    printf("pairs of sound lists to pool: %" PRIu64 ";", sound_pairs);
+    for (int i = 0; i < FINDINGS; i++)
+        printf("%s %s %" PRIu64, i == 0 ? "" : ",", finding_name[i], findings[i]);
+    printf("\n");
+}
+
 static void print_choices(void)
 {
     printf("choices handed to commit, and judged or not:");
@@ -2457,6 +2890,7 @@ static void print_table(void)
     printf("loose lists: with new records side by side %" PRIu64 ", with matches to join %" PRIu64 ", too long for an area that their tidy form"
            " fits %" PRIu64 "; pairs with the same origins %" PRIu64 ", with others %" PRIu64 "\n", side_by_side, unjoined, short_for_loose,
            same_origins, other_origins);
+    print_pools();
     print_choices();
     print_differed("matches", differed);
     print_differed("stored stretches", differed_stored);
@@ -2585,6 +3019,18 @@ static int missing_loose(void)
     return 1;
 }
 
+/* How many kinds of pairs to pool are missing; of those where each list draws alone, and where both draw otherwise, a quarter of all are wanted. */
+static int missing_pools(void)
+{
+    int count = 0;
+    for (int i = 0; i < FINDINGS; i++)
+        if (findings[i] == 0 || (i <= OTHERWISE && 4 * findings[i] < sound_pairs)) {
+            printf("differential: too few pairs to pool, or none: %s\n", finding_name[i]);
+            count++;
+        }
+    return count;
+}
+
 /* How many pairs of places within a word had no match, or no stored stretch, that differs. */
 static int missing_places(void)
 {
@@ -2628,6 +3074,7 @@ int main(int argc, char **argv)
     stretch_cases();
     middle_cases();
     full_cases();
+    pooled_records();
     list_lengths();
     store_lengths();
     long_cases();
@@ -2645,7 +3092,7 @@ int main(int argc, char **argv)
         return 1;
     }
     if (missing_prices() + missing_columns() + missing_places() + uneven_counts() + missing_pairs() + missing_marks() + missing_choices()
-        + missing_loose() > 0)
+        + missing_loose() + missing_pools() > 0)
         return 1;
     printf("differential: %" PRIu64 " calls compared, 0 differences\n", calls);
     return 0;

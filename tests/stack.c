@@ -3,7 +3,7 @@
  * Each call runs on a stack of its own that is painted beforehand, and the depth is where the paint ends. Two paints are used, since
  * a call may write a byte that looks like one. The few frames that lead to the call are counted with it, and `nothing` shows them
  * alone. The lists are full (4,096 records) and lead through the merges of the pass, a stored and a kept list, held matches, and refusals; the loose
- * ones have every record in halves.
+ * ones have every record in halves, and the second list of pool draws where the first does not.
  *
  * The calls, and the most stack that each may take, are those of controller.h, which tests/declared reads. One line for each call, in
  * bytes. Exit 0 where none takes more than the header says, else 1.
@@ -21,10 +21,11 @@ enum { KIB = 1024, STACK = 1024 * KIB, BYTES = 64 * RECORDS_MOST };
 
 /* ---- The inputs ---- */
 
-/* One list, with its price and the lengths that go with it; and the first half of its records as a loose list, each record in halves. */
+/* One list, with its price and the lengths that go with it; the first half of its records as a loose list, each record in halves; and a list that is new
+ * where the first has a match, and has a match, of each mark in turns, where that is new. */
 static struct {
     uint32_t en, em, f;
-    uint8_t list[RECORDS_MOST * RECORD_BYTES], loose[RECORDS_MOST * RECORD_BYTES];
+    uint8_t list[RECORDS_MOST * RECORD_BYTES], loose[RECORDS_MOST * RECORD_BYTES], second[RECORDS_MOST * RECORD_BYTES];
     size_t length, stored;
 } input;
 
@@ -65,10 +66,12 @@ static void set_input(const struct shape *shape)
     for (unsigned i = 0; i < RECORDS_MOST; i++) {
         const unsigned size = shape->size + i % shape->round;
         const int is_new = shape->new_every && i % shape->new_every == 0;
-        uint8_t *record = input.list + RECORD_BYTES * i;
+        uint8_t *record = input.list + RECORD_BYTES * i, *second = input.second + RECORD_BYTES * i;
         record[0] = !is_new;
         record[1] = !is_new && shape->held_every && i % shape->held_every == 0;
-        record[4] = (uint8_t)size;
+        record[4] = second[4] = (uint8_t)size;
+        second[0] = second[8] = is_new;
+        second[1] = is_new && i % 2 == 1;
         handed[i] = is_new || (record[1] == 0 && i % 3 == 1);
         input.length += size;
         input.stored += is_new ? size : 0;
@@ -146,6 +149,12 @@ static void call_check_loose(void)
 static void call_tidy(void)
 {
     number = tidy(input.loose, sizeof input.loose, zeros, BYTES, list_area, sizeof list_area, answer, sizeof answer);
+}
+
+static void call_pool(void)
+{
+    number = pool(input.list, sizeof input.list, input.second, sizeof input.second, zeros, input.length, zeros, BYTES, list_area, sizeof list_area,
+                  answer, sizeof answer);
 }
 
 /* The calls by the header: whether the price goes into each, and the most that it may take. calls.def has a line CALL(name, priced, most)

@@ -3,13 +3,13 @@
  *   deposit OLD NEW [EN EM F]
  *
  * OLD is the store and NEW the version; EN, EM and F are the price, 12, 16 and 1024 where they are not given: a new entry has
- * no address, which spares 4 bytes, and F is in 256ths of a disk byte. It finds matches, as a loose list, and tidies that. It measures the tidy list,
- * hands it to pass for comparison, and estimates what the least list would come to. Only then are areas taken for that list and its stored block:
- * the estimate's choice is committed, and NEW rebuilt from what was written. Last, the tidy list is compared with what a commitment writes that keeps
- * every match, which draws each byte from the same place, and with the deposited list, which does so where no match was given up. Costs are printed
- * in disk bytes. Nothing goes to disk.
+ * no address, which spares 4 bytes, and F is in 256ths of a disk byte. Two finders, a quick and a thorough one, find matches, each as a loose list, and
+ * these are pooled. It measures the pooled list, hands it to pass for comparison, and estimates what the least list would come to. Only then are areas
+ * taken for that list and its stored block: the estimate's choice is committed, and NEW rebuilt from what was written. Last, the pooled list is compared
+ * with what a commitment writes that keeps every match, which draws each byte from the same place, and with the deposited list, which does so where no
+ * match was given up. Costs are printed in disk bytes. Nothing goes to disk.
  *
- * In order: errors; files; answers; the list; the finder of matches; the calls; the report. Exit 0 where NEW came back, else 1 and one line.
+ * In order: errors; files; answers; the list; the finders of matches; the calls; the report. Exit 0 where NEW came back, else 1 and one line.
  */
 #include <errno.h>
 #include <inttypes.h>
@@ -87,7 +87,7 @@ static struct answer answer_of(const char *call, const uint8_t *area)
 
 /* ---- The list ---- */
 
-/* The records that it has now, and those that were added in all. */
+/* The records that it has now, and, of a finder's list, those that were added in all. */
 struct list {
     uint8_t bytes[RECORDS_MOST * RECORD_BYTES];
     size_t records, added;
@@ -131,38 +131,44 @@ static void tidy_list(struct list *list, struct bytes store)
     list->records = answer_of("tidy", area).entries;
 }
 
-/* ---- The finder of matches ---- */
+/* ---- The finders of matches ---- */
 
-/* The store is indexed by its blocks of this many bytes, those at multiples of it. */
-#define BLOCK 16
+/* A finder indexes the store by its blocks of this many bytes, a multiple of 8, at multiples of a step. */
+struct finder {
+    size_t block, step;
+};
 
-/* For each hash, 1 + the number of the first block that has it; 0 where none has. */
+static const struct finder quick = { 64, 64 }, thorough = { 16, 1 };
+
+/* For each hash, 1 + the address of the first block that has it; 0 where none has. */
 struct index {
+    struct finder by;
     uint32_t *slots;
     int bits;
 };
 
-static size_t hash(const uint8_t *block, int bits)
+static size_t hash(const struct index *index, const uint8_t *block)
 {
-    uint64_t a, b;
-    memcpy(&a, block, 8);
-    memcpy(&b, block + 8, 8);
-    return (size_t)(((a * UINT64_C(0x9e3779b97f4a7c15)) ^ b) * UINT64_C(0xd1342543de82ef95) >> (64 - bits));
+    uint64_t word, sum = 0;
+    for (size_t i = 0; i < index->by.block; i += sizeof word) {
+        memcpy(&word, block + i, sizeof word);
+        sum = (sum ^ word) * UINT64_C(0x9e3779b97f4a7c15);
+    }
+    return (size_t)(sum >> (64 - index->bits));
 }
 
-static struct index index_blocks(struct bytes store)
+static struct index index_blocks(struct bytes store, struct finder by)
 {
-    const size_t blocks = store.length / BLOCK;
-    struct index index = { NULL, 8 };
-    while (index.bits < 24 && (size_t)1 << index.bits < 2 * blocks)
+    struct index index = { by, NULL, 8 };
+    while (index.bits < 24 && (size_t)1 << index.bits < 2 * store.length / by.step)
         index.bits++;
     const size_t length = sizeof *index.slots << index.bits;
     index.slots = allocate(length);
     memset(index.slots, 0, length);
-    for (size_t i = 0; i < blocks; i++) {
-        uint32_t *slot = &index.slots[hash(store.at + BLOCK * i, index.bits)];
+    for (size_t at = 0; at + by.block <= store.length; at += by.step) {
+        uint32_t *slot = &index.slots[hash(&index, store.at + at)];
         if (*slot == 0)
-            *slot = (uint32_t)(i + 1);
+            *slot = (uint32_t)(at + 1);
     }
     return index;
 }
@@ -170,13 +176,12 @@ static struct index index_blocks(struct bytes store)
 /* Where in the store the version's block at p begins, or the store's length where the index has it not, or the version ends before. */
 static size_t look_up(const struct index *index, struct bytes store, struct bytes version, size_t p)
 {
-    if (version.length - p < BLOCK)
+    if (version.length - p < index->by.block)
         return store.length;
-    const uint8_t *block = version.at + p;
-    const uint32_t slot = index->slots[hash(block, index->bits)];
-    if (slot == 0 || memcmp(store.at + BLOCK * (size_t)(slot - 1), block, BLOCK) != 0)
+    const uint32_t slot = index->slots[hash(index, version.at + p)];
+    if (slot == 0 || memcmp(store.at + (slot - 1), version.at + p, index->by.block) != 0)
         return store.length;
-    return BLOCK * (size_t)(slot - 1);
+    return slot - 1;
 }
 
 /* How many bytes from a and from b on are the same, up to most. */
@@ -214,10 +219,11 @@ static int ends_new(const struct list *list)
 
 /* Goes through the version and adds what it finds: a match where the index has the block at p, else a new byte. The new bytes before a match that are
  * the same in the store are taken back, and it begins with them. Where the list has no room even when it is tidy, the rest is one new record. */
-static void find_matches(struct bytes store, struct bytes version, struct list *list)
+static void find_matches(struct finder by, struct bytes store, struct bytes version, struct list *list)
 {
-    const struct index index = index_blocks(store);
+    const struct index index = index_blocks(store, by);
     size_t p = 0;
+    list->records = list->added = 0;
     while (p < version.length && has_room(list, store)) {
         size_t q = look_up(&index, store, version, p);
         if (q == store.length) {
@@ -237,10 +243,11 @@ static void find_matches(struct bytes store, struct bytes version, struct list *
 
 /* ---- The calls ---- */
 
-/* What is deposited: the list found, tidied; version and store; and the price. */
+/* What is deposited: the list of each finder, and the list found, which may be both pooled; version and store; and the price. */
 struct deposit {
     struct bytes store, version;
-    struct list found;
+    struct list quickly, thoroughly, found;
+    int is_pooled;
     uint32_t en, em, f;
 };
 
@@ -255,6 +262,28 @@ struct written {
     struct answer answer;
     struct bytes list, block;
 };
+
+/* Pools two lists into the list found; the number. */
+static uint32_t pool_into_found(struct deposit *d, const struct list *first, const struct list *second)
+{
+    uint8_t area[ANSWER_BYTES];
+    const uint32_t number = pool(first->bytes, RECORD_BYTES * first->records, second->bytes, RECORD_BYTES * second->records, d->version.at,
+                                 d->version.length, d->store.at, d->store.length, d->found.bytes, sizeof d->found.bytes, area, sizeof area);
+    if (number != TOO_MANY_RECORDS)
+        d->found.records = answer_of("pool", area).entries;
+    return number;
+}
+
+/* Where a byte is drawn by both finders, the quick one, whose matches are longer, decides. Where that makes too many records, its list alone is taken:
+ * with itself, it gives its tidy form. */
+static void find_and_pool(struct deposit *d)
+{
+    find_matches(quick, d->store, d->version, &d->quickly);
+    find_matches(thorough, d->store, d->version, &d->thoroughly);
+    d->is_pooled = pool_into_found(d, &d->quickly, &d->thoroughly) == ACCEPTED;
+    if (!d->is_pooled)
+        pool_into_found(d, &d->quickly, &d->quickly);
+}
 
 static struct answer measure_found(const struct deposit *d)
 {
@@ -380,7 +409,8 @@ static void print_estimate(const struct deposit *d, struct answer found, struct 
 {
     printf("store %zu bytes, version %zu bytes; EN %" PRIu32 ", EM %" PRIu32 ", F %" PRIu32 ": a new entry costs %.2f disk bytes, a match %.2f\n",
            d->store.length, d->version.length, d->en, d->em, d->f, in_disk_bytes((uint64_t)d->en * d->f), in_disk_bytes((uint64_t)d->em * d->f));
-    printf("found: %zu records, of which tidy made %zu\n\n", d->found.added, d->found.records);
+    printf("found: %zu records by the quick finder, %zu by the thorough one, %s %zu\n\n", d->quickly.added, d->thoroughly.added,
+           d->is_pooled ? "pooled into" : "too many to pool; the quick finder's alone:", d->found.records);
     printf("%-22s %8s %13s %19s\n", "list", "entries", "stored bytes", "cost in disk bytes");
     print_row("every match kept", found);
     print_row("the pass", passed);
@@ -439,9 +469,7 @@ int main(int count, char **arguments)
     d->f = count == 6 ? number_of(arguments[5]) : 4 * DISK_BYTE;
     d->store = read_file(arguments[1], STORE_MOST);
     d->version = read_file(arguments[2], VERSION_MOST);
-    d->found.records = d->found.added = 0;
-    find_matches(d->store, d->version, &d->found);
-    tidy_list(&d->found, d->store);
+    find_and_pool(d);
     make_deposit(d, arguments[2]);
     free(d->store.at), free(d->version.at), free(d);
     if (fflush(stdout) != 0)

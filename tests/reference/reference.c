@@ -1,9 +1,10 @@
 /* reference.c - the calls of docs/SPECIFICATION.md, section 4, a second time, in plain C.
  *
  * In order: limits; reading and writing of fields; the checks of the inputs; the cost; measure, rebuild and check; compare; runs; the
- * least choice; the pass; what a choice comes to; partition and pass; estimate and commit; loose lists. It shares no line with the library and takes
- * nothing from its header. Where the library prices each record by the one before it, this looks for the runs first, and chooses for them. Where it
- * tidies record by record, this first finds the records that stay. Compare joins no runs: it goes through both lists, stretch by stretch.
+ * least choice; the pass; what a choice comes to; partition and pass; estimate and commit; loose lists; pool. It shares no line with the library and
+ * takes nothing from its header. Where the library prices each record by the one before it, this looks for the runs first, and chooses for them. Where
+ * it tidies record by record, this first finds the records that stay. Compare joins no runs: it goes through both lists, stretch by stretch. Pool goes
+ * through the first list, and looks up what the second has under its new records.
  */
 #include "reference.h"
 
@@ -85,7 +86,7 @@ static struct answer refused(uint32_t number, size_t place)
 
 /* ---- The checks of the inputs ---- */
 
-/* What a call reads; measure has neither version nor store, and only partition, pass, estimate and commit have a version. In a loose list new
+/* What a call reads; measure has neither version nor store, and only partition, pass, estimate, commit and pool have a version. In a loose list new
  * records may stand side by side. */
 struct inputs {
     const uint8_t *list, *version, *store;
@@ -703,7 +704,8 @@ uint32_t ref_commit(uint32_t en, uint32_t em, uint32_t f,
 
 /* ---- Loose lists ---- */
 
-/* Numbers 2 and 3, number 9 where an area is asked for, then record by record 4, 6 and 7; else number 0 and nothing else. */
+/* Numbers 2 and 3, number 9 where an area is asked for, then record by record 4, 6 and 7, with a version also 8, and the short end of 6; else number 0
+ * and nothing else. */
 static struct answer judge_loose(const struct inputs *in, int needs_area, size_t area_len)
 {
     const uint32_t fault = bad_length(in);
@@ -770,6 +772,91 @@ uint32_t ref_tidy(const uint8_t *list, size_t list_len,
         for (size_t s = 0; s < a.entries; s++) {
             memcpy(list_area + RECORD * s, list + RECORD * stays[s], RECORD);
             put32(list_area + RECORD * s + 4, begins[s + 1] - begins[s]);
+        }
+    }
+    return give(&a, answer);
+}
+
+/* ---- Pool ---- */
+
+/* The pooled list as it grows: a record for each cut of either list at most, and room for the one that is added. */
+static uint8_t pooled[2 * LONGEST_LIST];
+
+/* The offsets of the second list's records, and behind the last the whole length. */
+static uint32_t offsets[MOST_RECORDS + 1];
+
+static void find_offsets(const uint8_t *list, size_t n)
+{
+    offsets[0] = 0;
+    for (size_t i = 0; i < n; i++)
+        offsets[i + 1] = offsets[i] + size_of(list, i);
+}
+
+/* Adds so many bytes of a record, from some into it on, behind n pooled records, of which the last may take them in; how many there are then. */
+static size_t add_part(size_t n, const uint8_t *r, uint32_t into, uint32_t bytes)
+{
+    uint8_t *part = pooled + RECORD * n;
+    memcpy(part, r, RECORD);
+    put32(part + 4, bytes);
+    if (r[0] == MATCH)
+        put32(part + 8, get32(r + 8) + into);
+    if (!goes_into(pooled, n))
+        return n + 1;
+    put32(part - RECORD + 4, get32(part - RECORD + 4) + bytes);
+    return n;
+}
+
+/* Adds what the second list has from one offset to another, where record *j, or one behind it, has the first of these bytes; *j goes to the record with
+ * the last. */
+static size_t add_between(size_t n, const uint8_t *list, size_t *j, uint32_t from, uint32_t to)
+{
+    while (from < to) {
+        while (offsets[*j + 1] <= from)
+            ++*j;
+        const uint32_t end = offsets[*j + 1] < to ? offsets[*j + 1] : to;
+        n = add_part(n, list + RECORD * *j, from - offsets[*j], end - from);
+        from = end;
+    }
+    return n;
+}
+
+/* Pools two sound lists of one version; how many records there are. */
+static size_t pool_lists(const uint8_t *one, size_t n_one, const uint8_t *other, size_t n_other)
+{
+    size_t n = 0, j = 0;
+    uint32_t offset = 0;
+    find_offsets(other, n_other);
+    for (size_t i = 0; i < n_one; i++) {
+        const uint32_t end = offset + size_of(one, i);
+        if (one[RECORD * i] == MATCH)
+            n = add_part(n, one + RECORD * i, 0, end - offset);
+        else
+            n = add_between(n, other, &j, offset, end);
+        offset = end;
+    }
+    return n;
+}
+
+uint32_t ref_pool(const uint8_t *first_list, size_t first_len,
+                  const uint8_t *second_list, size_t second_len,
+                  const uint8_t *version, size_t version_len,
+                  const uint8_t *store, size_t store_len,
+                  uint8_t *list_area, size_t list_area_len,
+                  uint8_t *answer, size_t answer_len)
+{
+    if (answer_len < ANSWER_LEAST)
+        return 9;
+    const struct inputs one = { first_list, version, store, first_len, version_len, store_len, 1, 1, 1 };
+    const struct inputs other = { second_list, version, store, second_len, version_len, store_len, 1, 1, 1 };
+    struct answer a = judge_loose(&one, 0, 0);
+    if (a.number == 0)
+        a = judge_loose(&other, 0, 0);
+    if (a.number == 0) {
+        const size_t n = pool_lists(first_list, first_len / RECORD, second_list, second_len / RECORD);
+        a = refused(n > MOST_RECORDS ? 13 : list_area_len < RECORD * n ? 9 : 0, 0);
+        if (a.number == 0) {
+            memcpy(list_area, pooled, RECORD * n);
+            a.entries = (uint32_t)n;
         }
     }
     return give(&a, answer);

@@ -86,4 +86,12 @@ uint32_t ref_tidy(const uint8_t *list, size_t list_len,
                   uint8_t *list_area, size_t list_area_len,
                   uint8_t *answer, size_t answer_len);
 
+/* The pooled list of two lists of one version. */
+uint32_t ref_pool(const uint8_t *first, size_t first_len,
+                  const uint8_t *second, size_t second_len,
+                  const uint8_t *version, size_t version_len,
+                  const uint8_t *store, size_t store_len,
+                  uint8_t *list_area, size_t list_area_len,
+                  uint8_t *answer, size_t answer_len);
+
 #endif

@@ -22,6 +22,7 @@ use Rattle.format.proofs.Rulings.{fine-of-then, true-of-need, both-of-and, and-
 use Rattle.format.proofs.Rows.{Counted, counted-of-fits}
 use Rattle.format.proofs.Encoding.{records-encode, fits-encode}
 use Rattle.format.proofs.Rebuilding.{whole-agrees}
+use Rattle.walk.specs.declared.Scope.{Scope}
 use Rattle.walk.specs.declared.Scope.the-variants as scope
 use Rattle.walk.specs.declared.Totals.{Totals}
 use Rattle.walk.specs.declared.Walked.the-variants.{Through}
@@ -38,15 +39,15 @@ use Rattle.admit.specs.Admit.{lengthsFit, areasFit, firstRuling, roomsRu
 
 -- ---- the list beside version and store
 
-module _ (list v st : List ℕ) where
-  pub cover-walk : (x : Refusal) → walkRuling (checks scope.Version v st) list ≡ Stop x → coverRuling list v st ≡ Stop x
-  cover-walk x w = rw w
+module _ (x : Scope) (list v st : List ℕ) where
+  pub cover-walk : (r : Refusal) → walkRuling (checks x v st) list ≡ Stop r → coverRuling x list v st ≡ Stop r
+  cover-walk r w = rw w
 
-  module _ (w : walkRuling (checks scope.Version v st) list ≡ Fine) where
-    pub cover-short : (whole (recordsOf list) ≡ length v → ⊥) → coverRuling list v st ≡ Stop (refuse fault.Sizes (length (recordsOf list)))
+  module _ (w : walkRuling (checks x v st) list ≡ Fine) where
+    pub cover-short : (whole (recordsOf list) ≡ length v → ⊥) → coverRuling x list v st ≡ Stop (refuse fault.Sizes (length (recordsOf list)))
     cover-short n = rw (w, ne-eqb (whole (recordsOf list)) (length v) n)
 
-    pub cover-fine : whole (recordsOf list) ≡ length v → coverRuling list v st ≡ Fine
+    pub cover-fine : whole (recordsOf list) ≡ length v → coverRuling x list v st ≡ Fine
     cover-fine n = rw (w, eq-eqb (whole (recordsOf list)) (length v) n)
 
 -- what a list has that is fine beside version and store
@@ -55,7 +56,7 @@ pub record Covered (list v st : List ℕ) : Type 0 where
   pub whole-is : whole (recordsOf list) ≡ length v
   pub well-formed : WellFormed st (recordsOf list) v
 
-pub covered-of-fine : (list v st : List ℕ) → coverRuling list v st ≡ Fine → Covered list v st
+pub covered-of-fine : (list v st : List ℕ) → coverRuling scope.Version list v st ≡ Fine → Covered list v st
 covered-of-fine list v st h =
     let parts = fine-of-then (walkRuling (checks scope.Version v st) list) (need (eqb (whole (recordsOf list)) (length v)) fault.Sizes (length (recordsOf list))) h in
     let ends = eqb-true (whole (recordsOf list)) (length v) (true-of-need _ fault.Sizes (length (recordsOf list)) (parts .1)) in
@@ -122,12 +123,12 @@ module _ (price : Price) (list v st : List ℕ) (c a b : ℕ) where
   record Passed : Type 0 where
     first : firstRuling price list v st ≡ Fine
     rooms : roomsRuling list v c a b ≡ Fine
-    cover : coverRuling list v st ≡ Fine
+    cover : coverRuling scope.Version list v st ≡ Fine
 
   passed-of-fine : admitRuling price list v st c a b ≡ Fine → Passed
   passed-of-fine h =
-      let k = fine-of-then (firstRuling price list v st) (roomsRuling list v c a b then coverRuling list v st) h in
-      let l = fine-of-then (roomsRuling list v c a b) (coverRuling list v st) (k .1) in
+      let k = fine-of-then (firstRuling price list v st) (roomsRuling list v c a b then coverRuling scope.Version list v st) h in
+      let l = fine-of-then (roomsRuling list v c a b) (coverRuling scope.Version list v st) (k .1) in
       record { first = k .0; rooms = l .0; cover = l .1 }
 
   -- what admitted inputs have
@@ -169,7 +170,7 @@ findings-of-long price list v st x h =
     (h ∙ sym (areas-of-most list v (length list / 12) (length list) (length v) (omega arith) (omega arith) (omega arith)))
 
 pub stop-of-short : (price : Price) (list v st : List ℕ) (c a b : ℕ) → areasFit list v c a b ≡ false → (x : Refusal) × (admitRuling price list v st c a b ≡ Stop x)
-stop-of-short price list v st c a b h = let x = go (firstRuling price list v st) (coverRuling list v st) in (x .0, rw h (x .1))
+stop-of-short price list v st c a b h = let x = go (firstRuling price list v st) (coverRuling scope.Version list v st) in (x .0, rw h (x .1))
   where
     go : (q r : Ruling) → (x : Refusal) × (q then need false fault.AreaTooShort 0 then r ≡ Stop x)
     go Fine r = (refuse fault.AreaTooShort 0, refl)
@@ -179,4 +180,4 @@ stop-of-short price list v st c a b h = let x = go (firstRuling price list v st)
 pub fine-of-written : (price : Price) (l : List Record) (v st : List ℕ) (c a b : ℕ) → priceFits price ≡ true → lengthsFit v st ≡ true → length l ≤ 4096
     → areasFit (encode l) v c a b ≡ true → WellFormed st l v → admitRuling price (encode l) v st c a b ≡ Fine
 fine-of-written price l v st c a b j k n m w =
-    rw (j, k, fits-encode l n, m) (cover-fine (encode l) v st (walk-encode v st l w) (ap whole (records-encode l) ∙ whole-agrees st l v (w .agrees)))
+    rw (j, k, fits-encode l n, m) (cover-fine scope.Version (encode l) v st (walk-encode v st l w) (ap whole (records-encode l) ∙ whole-agrees st l v (w .agrees)))

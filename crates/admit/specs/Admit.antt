@@ -12,6 +12,7 @@ use Rattle.format.specs.Limits.{versionMost, storeMost}
 use Rattle.format.specs.Refusal.{need, _then_}
 use Rattle.format.specs.Record.{listFits, recordsOf}
 use Rattle.format.specs.Meaning.{whole}
+use Rattle.walk.specs.declared.Scope.{Scope}
 use Rattle.walk.specs.declared.Scope.the-variants as scope
 use Rattle.walk.specs.Checks.{checks, walkRuling}
 use Rattle.area.specs.Area.{Areas}
@@ -34,13 +35,13 @@ firstRuling price list v st = need (priceFits price) fault.Price 0 then need (le
 abbrev pub roomsRuling : List ℕ → List ℕ → ℕ → ℕ → ℕ → Ruling
 roomsRuling list v c a b = need (areasFit list v c a b) fault.AreaTooShort 0
 
--- record by record 4, 5, 6, 7, 8; then the short end, at place n
-abbrev pub coverRuling : List ℕ → List ℕ → List ℕ → Ruling
-coverRuling list v st = walkRuling (checks scope.Version v st) list then need (eqb (whole (recordsOf list)) (length v)) fault.Sizes (length (recordsOf list))
+-- record by record 4, 5, 6, 7, 8, or those that the scope asks for; then the short end, at place n
+abbrev pub coverRuling : Scope → List ℕ → List ℕ → List ℕ → Ruling
+coverRuling x list v st = walkRuling (checks x v st) list then need (eqb (whole (recordsOf list)) (length v)) fault.Sizes (length (recordsOf list))
 
 -- the order of clause 6.5: 1, 2, 3; then 9; then record by record 4, 5, 6, 7, 8, and the short end. In rooms of lengths c, a and b
 abbrev pub admitRuling : Price → List ℕ → List ℕ → List ℕ → ℕ → ℕ → ℕ → Ruling
-admitRuling price list v st c a b = firstRuling price list v st then roomsRuling list v c a b then coverRuling list v st
+admitRuling price list v st c a b = firstRuling price list v st then roomsRuling list v c a b then coverRuling scope.Version list v st
 
 -- all checks of a call of partition or pass, in the areas that are lent to it
 abbrev pub partitionRuling : Price → List ℕ → List ℕ → List ℕ → Areas → Ruling

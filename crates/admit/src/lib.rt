@@ -1,6 +1,6 @@
 // The checks that partition, pass, estimate and commit make of their inputs and areas, in their order.
 //
-// Three parts, each a function: price and lengths; the rooms; the list beside version and store.
+// Three parts, each a function: price and lengths; the rooms; the list beside version and store. Pool makes the last part of each of its two lists.
 ghost use mathlib.Core.Path.{_≡_};
 ghost use Rattle.format.specs.Record.{recordsOf};
 ghost use Rattle.walk.specs.Walked.{Lengths, walked};
@@ -12,7 +12,7 @@ use walk::Scope;
 use walk::Walked;
 
 // Check 2: whether version and store are short enough.
-fn lengths_fit(version: &[u8], store: &[u8]) -> bool
+pub fn lengths_fit(version: &[u8], store: &[u8]) -> bool
     ensures { λ r. ⌜ r ≡ lengthsFit (now (version .entry)) (now (store .entry)) ⌝ }
 {
     if format::VERSION_MOST < version.len() {
@@ -72,12 +72,12 @@ fn rooms(
     Ruling::Fine
 }
 
-// Record by record 4 to 8, then the short end.
-pub fn cover(list: &[u8], version: &[u8], store: &[u8]) -> Walked
+// Record by record 4 to 8, or those that the scope asks for; then the short end.
+pub fn cover(list: &[u8], version: &[u8], store: &[u8], scope: Scope) -> Walked
     requires { ⌜ Lengths (now list) (now version) ⌝ }
-    ensures { λ r. ⌜ r ≡ walked (coverRuling (now (list .entry)) (now (version .entry)) (now (store .entry))) (recordsOf (now (list .entry))) ⌝ }
+    ensures { λ r. ⌜ r ≡ walked (coverRuling scope (now (list .entry)) (now (version .entry)) (now (store .entry))) (recordsOf (now (list .entry))) ⌝ }
 {
-    let w = walk::walk(list, version, store, Scope::Version);
+    let w = walk::walk(list, version, store, scope);
     let Walked::Through(t) = w else {
         return w;
     };
@@ -107,5 +107,5 @@ pub fn admit(
     if let Ruling::Stop(refusal) = nine {
         return Walked::Stopped(refusal);
     }
-    cover(list, version, store)
+    cover(list, version, store, Scope::Version)
 }

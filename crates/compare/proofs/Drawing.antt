@@ -3,18 +3,19 @@
 -- Assumes nothing.
 use Prim.Native.Nat.{ℕ, zero, suc, _+_, _≤_}
 use native.Mathlib.Omega.{arith}
-use native.Mathlib.Numerals.{add-one}
 use mathlib.Core.Path.{_≡_, refl, sym, _∙_, ap, ap₂}
 use mathlib.Core.Bool.{Bool}
 use mathlib.Core.List.{List, [], _∷_, _++_}
 use lib.ListN.{length, take, drop, getD, replicate, length-drop}
-use lib.Seq.{drop-cons, take-all}
+use lib.Seq.{take-all}
 use Rattle.format.specs.declared.Record.{Record}
 use Rattle.format.specs.declared.Record.the-variants.{New, Match}
 use Rattle.format.specs.Record.{from}
 use Rattle.format.specs.Meaning.{stored, rebuilt}
 use Rattle.format.specs.WellFormed.{Inside, Readable}
 use Rattle.format.specs.Origins.{Origin, fresh, drawn, drawnAt, origins}
+use Rattle.format.proofs.Encoding.{one-more}
+use Rattle.format.proofs.Tracing.{freshes, freshes-stored}
 
 -- the version by the origins of its bytes: the next stored byte, or the store's
 abbrev drawnOut : List Origin → List ℕ → List ℕ → List ℕ
@@ -30,8 +31,7 @@ drawn-new (suc s) os (x ∷ b) st h = ap (λ (l : List ℕ). x ∷ l) (drawn-new
 drawn-run : (held : Bool) (s a : ℕ) (os : List Origin) (b st : List ℕ) → a + s ≤ length st → drawnOut (from (drawnAt held) a s ++ os) b st ≡ take s (drop a st) ++ drawnOut os b st
 drawn-run held zero a os b st h = refl
 drawn-run held (suc s) a os b st h =
-    let first : drop a st ≡ getD st a 0 ∷ drop (a + 1) st = drop-cons st a 0 (omega arith) ∙ ap (λ (n : ℕ). getD st a 0 ∷ drop n st) (sym (add-one a)) in
-    ap (λ (l : List ℕ). getD st a 0 ∷ l) (drawn-run held s (a + 1) os b st (omega arith)) ∙ ap (λ (l : List ℕ). take (suc s) l ++ drawnOut os b st) (sym first)
+    ap (λ (l : List ℕ). getD st a 0 ∷ l) (drawn-run held s (a + 1) os b st (omega arith)) ∙ ap (λ (l : List ℕ). take (suc s) l ++ drawnOut os b st) (sym (one-more st a (omega arith)))
 
 -- what a list rebuilds
 pub rebuilt-drawn : (l : List Record) (b st : List ℕ) → Inside st l → stored l ≤ length b → rebuilt l b st ≡ drawnOut (origins l) b st
@@ -47,25 +47,6 @@ kept [] v = []
 kept (o ∷ os) [] = []
 kept (fresh ∷ os) (x ∷ v) = x ∷ kept os v
 kept (drawn a ∷ os) (x ∷ v) = kept os v
-
--- how many are
-abbrev freshes : List Origin → ℕ
-freshes [] = 0
-freshes (fresh ∷ os) = suc (freshes os)
-freshes (drawn a ∷ os) = freshes os
-
-freshes-new : (s : ℕ) (os : List Origin) → freshes (replicate s fresh ++ os) ≡ s + freshes os
-freshes-new zero os = omega arith
-freshes-new (suc s) os = omega (arith, freshes-new s os)
-
-freshes-run : (held : Bool) (s a : ℕ) (os : List Origin) → freshes (from (drawnAt held) a s ++ os) ≡ freshes os
-freshes-run held zero a os = refl
-freshes-run held (suc s) a os = freshes-run held s (a + 1) os
-
-freshes-stored : (l : List Record) → freshes (origins l) ≡ stored l
-freshes-stored [] = refl
-freshes-stored (New s ∷ l) = omega (arith, freshes-new s (origins l), freshes-stored l)
-freshes-stored (Match s a ∷ l) = freshes-run (a .held) s (a .address) (origins l) ∙ freshes-stored l
 
 kept-drawn : (os : List Origin) (b st : List ℕ) → freshes os ≤ length b → kept os (drawnOut os b st) ≡ take (freshes os) b
 kept-drawn [] b st h = refl

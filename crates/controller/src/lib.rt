@@ -12,6 +12,7 @@ ghost use Rattle.call_pass.specs.Pass.{passAnswer, passAreas};
 ghost use Rattle.estimate.specs.Estimate.{estimateAnswer, estimateArea};
 ghost use Rattle.commit.specs.Commit.{commitAnswer, commitList, commitBlock};
 ghost use Rattle.loose.specs.Loose.{looseChecked, tidyAnswer, tidyArea};
+ghost use Rattle.pool.specs.Pool.{poolAnswer, poolArea};
 ghost use Rattle.answer.specs.Layout.{Answered, lent};
 use price::Price;
 
@@ -226,4 +227,23 @@ pub extern "C" fn tidy(list: &[u8], store: &[u8], list_area: &mut [u8], answer: 
         return 9;
     }
     answer::give(loose::tidy(list, store, list_area), answer)
+}
+
+// Pool.
+#[no_mangle]
+pub extern "C" fn pool(
+    first: &[u8],
+    second: &[u8],
+    version: &[u8],
+    store: &[u8],
+    list_area: &mut [u8],
+    answer: &mut [u8],
+) -> u32
+    ensures answered { λ r. ⌜ Answered (poolAnswer (now (first .entry)) (now (second .entry)) (now (version .entry)) (now (store .entry)) (now («list_area» .entry))) (now (answer .entry)) r (now (answer .exit)) ⌝ }
+    ensures list_after { λ _. ⌜ now («list_area» .exit) ≡ lent (now (answer .entry)) (poolArea (now (first .entry)) (now (second .entry)) (now (version .entry)) (now (store .entry)) (now («list_area» .entry))) (now («list_area» .entry)) ⌝ }
+{
+    if answer.len() < 32 {
+        return 9;
+    }
+    answer::give(pool::pool(first, second, version, store, list_area), answer)
 }

@@ -11,7 +11,7 @@ use Rattle.format.specs.declared.Record.{Record}
 use Rattle.format.specs.Limits.{storeMost, versionMost}
 use Rattle.format.specs.Record.{rowAt, recordOf, recordsOf, recordsFrom}
 use Rattle.format.specs.Meaning.{sizeOf, whole}
-use Rattle.format.specs.WellFormed.{Sized, Readable}
+use Rattle.format.specs.WellFormed.{Sized, Inside, Readable}
 use Rattle.format.specs.Origins.{originsOf, origins}
 use Rattle.format.proofs.Rows.{recordsFrom-next, recordsFrom-none, recordsFrom-all}
 use Rattle.cursors.specs.declared.Cursor.{Cursor}
@@ -22,8 +22,11 @@ use Rattle.cursors.proofs.Cutting.{size-lead, size-cut, end-cut, cut-cu
 
 -- ---- what the checks give
 
+pub checked-of-inside : {list : List ℕ} (st : List ℕ) → length st ≤ storeMost → Sized (recordsOf list) → Inside st (recordsOf list) → whole (recordsOf list) ≤ versionMost → Checked list
+checked-of-inside {list} st m h i w = record { sized = h; reaching = reaching-of-inside st (recordsOf list) m i; whole-most = w }
+
 pub checked-of-readable : {list : List ℕ} (block st : List ℕ) → length st ≤ storeMost → Readable (recordsOf list) block st → Checked list
-checked-of-readable {list} block st m h = record { sized = h .sized; reaching = reaching-of-inside st (recordsOf list) m (h .inside); whole-most = h .whole-most }
+checked-of-readable block st m h = checked-of-inside st m (h .sized) (h .inside) (h .whole-most)
 
 -- ---- one cursor
 
@@ -116,6 +119,7 @@ pub record Turn (first second : List ℕ) (x y : Cursor) (s : Pieces) : Type 0 w
   pub same-size : sizeOf (s .one) ≡ sizeOf (s .two)
   pub some : 1 ≤ sizeOf (s .one)
   pub covers : whole (remaining first x) ≡ sizeOf (s .one) + whole (remaining first (s .first))
+  pub also-covers : whole (remaining second y) ≡ sizeOf (s .two) + whole (remaining second (s .second))
 
 pub turn : {first second : List ℕ} {x y : Cursor} {s : Pieces} → StepReady first second x y → Stepped first second x y s → Turn first second x y s
 turn {first} {second} {x} {y} {s} r t =
@@ -134,6 +138,7 @@ turn {first} {second} {x} {y} {s} r t =
       same-size = size-one ∙ sym size-two;
       some = omega (arith, size-one, some-left (r .at-first) (r .goes-on), some-left (r .at-second) (r .also-goes-on));
       covers = rw (t .first-is) (omega (arith, whole-moved (r .at-first) (r .goes-on) n m, size-one));
+      also-covers = rw (t .second-is) (omega (arith, whole-moved (r .at-second) (r .also-goes-on) n i, size-two));
     }
 
 pub turn-less : {first second : List ℕ} {x y : Cursor} {s : Pieces} → Turn first second x y s → whole (remaining first (s .first)) < whole (remaining first x)

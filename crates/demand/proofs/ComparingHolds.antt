@@ -48,7 +48,7 @@ use Rattle.compare.specs.Compare.{compareRuling, versionOf, sameVersion, sameOr
 use Rattle.compare.proofs.Answering.{BothFine, compared-fine, by-blocks}
 use Rattle.linear.proofs.Theorems.{pass-holds}
 use Rattle.demand.specs.Demand.{Call, Rebuilding, writtenList, writtenBlock}
-use Rattle.demand.specs.Tidying.{Tidying, Tidies, tidyList, SameOrigins}
+use Rattle.demand.specs.Tidying.{ListCall, Tidies, listOut, SameOrigins}
 use Rattle.demand.specs.Comparing.{Rebuilds, writtenVersion, KeepsAll, Exactly, ComparingLaws}
 use Rattle.demand.proofs.WrittenList.{list-written, block-written, whole-written, inputs-accepted, rebuilt-written}
 use Rattle.demand.proofs.SplitHolds.{sound, given, decides}
@@ -108,8 +108,8 @@ module _ (first second block₁ block₂ st : List ℕ) where
       let both = both-of-and (sameVersion first second block₁ block₂ st) (sameOriginsIn first second) e in
       (v ∙ eq-of-same (versionOf first block₁ st) (versionOf second block₂ st) (both .0) ∙ sym w, same-of-alike first second (both .1)))
 
-  tidied-exactly : (x y : Tidying) → Accepts (compared first second block₁ block₂ st) → Tidies first st x → Accepts (x .answer) → Tidies second st y → Accepts (y .answer)
-      → Exactly (compared first second block₁ block₂ st) ((tidyList x ≡ tidyList y) × (block₁ ≡ block₂))
+  tidied-exactly : (x y : ListCall) → Accepts (compared first second block₁ block₂ st) → Tidies first st x → Accepts (x .answer) → Tidies second st y → Accepts (y .answer)
+      → Exactly (compared first second block₁ block₂ st) ((listOut x ≡ listOut y) × (block₁ ≡ block₂))
   tidied-exactly x y accepted t a u b =
       let fine = fine-of-then (inputsRuling first block₁ st) (inputsRuling second block₂ st) (fine-of-accepts (compareRuling first second block₁ block₂ st) (yesOrNo (sameThroughout first second block₁ block₂ st)) accepted) in
       let one = one-form first second st st x y t a u b in
@@ -133,18 +133,18 @@ alike-sym first second = go (sameOriginsIn first second) (sameOriginsIn second f
 
 -- ---- a list beside what tidy wrote of it
 
-module _ {list st : List ℕ} {x : Tidying} (t : Tidies list st x) (a : Accepts (x .answer)) (block : List ℕ) where
-  origins-stay : sameOriginsIn list (tidyList x) ≡ true
-  origins-stay = alike-of-same list (tidyList x) (tidying-laws .origins-stay list st x t a)
+module _ {list st : List ℕ} {x : ListCall} (t : Tidies list st x) (a : Accepts (x .answer)) (block : List ℕ) where
+  origins-stay : sameOriginsIn list (listOut x) ≡ true
+  origins-stay = alike-of-same list (listOut x) (tidying-laws .origins-stay list st x t a)
 
-  beside-tidied : compared list (tidyList x) block block st ≡ answer (inputsRuling list block st) (yesOrNo true)
+  beside-tidied : compared list (listOut x) block block st ≡ answer (inputsRuling list block st) (yesOrNo true)
   beside-tidied = go (inputsRuling list block st) refl
     where
-      go : (q : Ruling) → inputsRuling list block st ≡ q → compared list (tidyList x) block block st ≡ answer (inputsRuling list block st) (yesOrNo true)
+      go : (q : Ruling) → inputsRuling list block st ≡ q → compared list (listOut x) block block st ≡ answer (inputsRuling list block st) (yesOrNo true)
       go (Stop r) e = rw e
       go Fine e =
           let accepted = rw (sym (list-told t a)) at (inputs-form t a block (readable-of-inputs list block st e .1 .block-fits)) in
-          by-blocks (neither-refused list (tidyList x) block block st e accepted) ∙ ap (λ (s : Bool). Accepted (yesOrNo s)) (and-of-both (sameOriginsIn list (tidyList x)) (sameBytes block block) origins-stay (same-refl block)) ∙ rw e
+          by-blocks (neither-refused list (listOut x) block block st e accepted) ∙ ap (λ (s : Bool). Accepted (yesOrNo s)) (and-of-both (sameOriginsIn list (listOut x)) (sameBytes block block) origins-stay (same-refl block)) ∙ rw e
 
 -- ---- a list beside what was written of it for a choice
 

@@ -1,4 +1,5 @@
 pub mod WrittenList
+pub mod ListCalls
 pub mod Demanding
 pub mod WorkedHolds
 pub mod Giving
@@ -9,4 +10,5 @@ pub mod NoRunsHolds
 pub mod MarksHolds
 pub mod SplitHolds
 pub mod TidyingHolds
+pub mod PoolingHolds
 pub mod ComparingHolds

@@ -30,11 +30,11 @@ use Rattle.format.proofs.Rebuilding.{inside-agrees}
 use Rattle.format.proofs.Tracing.{length-origins, origins-alike}
 use Rattle.walk.specs.declared.Scope.the-variants as scope
 use Rattle.walk.specs.Checks.{checks, walkRuling}
-use Rattle.walk.proofs.Loosened.{Loosened, loosened, loosened-fine, loosened-stop, NotFive, not-five-then, not-five-need, not-five-walk, loose-of-version}
+use Rattle.walk.proofs.Loosened.{Loosened, loosened, loosened-version, loosened-fine, loosened-stop, NotFive, not-five-then, not-five-need, not-five-walk, loose-of-version}
 use Rattle.price.specs.declared.Price.{Price}
 use Rattle.price.specs.Price.{ratesOf}
 use Rattle.area.specs.Area.{over}
-use Rattle.area.proofs.Filling.{front, front-room}
+use Rattle.area.proofs.Filling.{front-room}
 use Rattle.show.specs.Check.{inputsRuling, checked}
 use Rattle.show.proofs.Accepting.{inputs-written, stop-of-check}
 use Rattle.rebuild.specs.Rebuild.{Rebuilt}
@@ -54,7 +54,8 @@ use Rattle.loose.specs.Loose.{looseRuling, tidyRuling, tidyForm, Tidied}
 use Rattle.loose.proofs.Accepting as loose
 use Rattle.demand.specs.Demand.{Call, Rebuilding, writtenList}
 use Rattle.demand.specs.Split.{Commits}
-use Rattle.demand.specs.Tidying.{Tidying, Tidies, tidyList, Writes, SameOrigins, TidyingLaws, TwoCalls}
+use Rattle.demand.specs.Tidying.{ListCall, Tidies, listOut, Writes, SameOrigins, TidyingLaws, TwoCalls}
+use Rattle.demand.proofs.ListCalls.{entries-of, list-of}
 use Rattle.demand.proofs.WrittenList.{list-written, well-formed-written, whole-written, count-written}
 use Rattle.demand.proofs.SplitHolds.{sound, given, decides}
 
@@ -76,7 +77,7 @@ fine-of-inputs Fine Fine (Stop x) k c h e = stop-fine e
 fine-of-inputs Fine Fine Fine k c h e = loosened-fine h refl
 
 -- a ruling of which this holds is not a stop with that fault
-not-five : (q : Ruling) (r : Refusal) → NotFive q → q ≡ Stop r → r .fault ≡ Adjacent → ⊥
+pub not-five : (q : Ruling) (r : Refusal) → NotFive q → q ≡ Stop r → r .fault ≡ Adjacent → ⊥
 not-five Fine r h e f = stop-fine (sym e)
 not-five (Stop x) r h e f = h (let z : x ≡ r = cc in ap (λ (y : Refusal). y .fault) z ∙ f)
 
@@ -105,7 +106,7 @@ module _ (list st : List ℕ) where
 
 -- ---- a call of tidy that finds no fault
 
-writes-form : {list st out : List ℕ} {n : ℕ} {y : Tidying} (l : List Record) → Tidies list st y → tidyRuling list st (length (y .before)) ≡ Fine → tidyForm list ≡ l → out ≡ encode l → n ≡ length l
+pub writes-form : {list st out : List ℕ} {n : ℕ} {y : ListCall} (l : List Record) → Tidies list st y → tidyRuling list st (length (y .before)) ≡ Fine → tidyForm list ≡ l → out ≡ encode l → n ≡ length l
     → Writes out n y
 writes-form {y = y} l t fine form out-is n-is =
     record {
@@ -114,25 +115,26 @@ writes-form {y = y} l t fine form out-is n-is =
     }
 
 -- a written list that is tidy already
-writes-back : {st out : List ℕ} {n : ℕ} {y : Tidying} (l : List Record) → out ≡ encode l → n ≡ length l → Settled l → length l ≤ 4096 → loose.Sound l st → Tidies out st y
+pub writes-back : {st out : List ℕ} {n : ℕ} {y : ListCall} (l : List Record) → out ≡ encode l → n ≡ length l → Settled l → length l ≤ 4096 → loose.Sound l st → Tidies out st y
     → length out ≤ length (y .before) → Writes out n y
 writes-back {st} {out} {n} {y} l out-is n-is settled few s t room =
     writes-form l t (rw out-is (loose.fine-of-sound l st (length (y .before)) few (rw out-is at room) s)) (ap tidyForm out-is ∙ ap tidy (records-encode l) ∙ tidy-settled l settled) out-is n-is
 
-module _ {list st : List ℕ} {x : Tidying} (t : Tidies list st x) (accepted : Accepts (x .answer)) where
+module _ {list st : List ℕ} {x : ListCall} (t : Tidies list st x) (accepted : Accepts (x .answer)) where
   fine : tidyRuling list st (length (x .before)) ≡ Fine
   fine = fine-of-accepts (tidyRuling list st (length (x .before))) (entriesOnly (length (tidyForm list))) (rw (t .answered) at accepted)
 
   passed : loose.Accepts list st (length (x .before))
   passed = loose.accepts-of-fine list st (length (x .before)) fine
 
-  entries-told : figuresIn (x .answer) .entries ≡ length (tidyForm list)
-  entries-told = rw fine at (ap (λ (a : Answer). figuresIn a .entries) (t .answered))
+  wrote : Writes (encode (tidyForm list)) (length (tidyForm list)) x
+  wrote = writes-form (tidyForm list) t fine refl refl refl
 
-  pub list-told : tidyList x ≡ encode (tidyForm list)
-  list-told =
-      let n : 12 * figuresIn (x .answer) .entries ≡ length (encode (tidyForm list)) = omega (arith, entries-told, length-encode (tidyForm list)) in
-      rw (rw fine at (t .area-after)) (front (12 * figuresIn (x .answer) .entries) (encode (tidyForm list)) (x .before) n)
+  entries-told : figuresIn (x .answer) .entries ≡ length (tidyForm list)
+  entries-told = entries-of (tidyForm list) wrote
+
+  pub list-told : listOut x ≡ encode (tidyForm list)
+  list-told = list-of (tidyForm list) wrote
 
   form-few : length (tidyForm list) ≤ 4096
   form-few = omega (arith, length-tidy (recordsOf list), passed .counted .count-most)
@@ -140,7 +142,7 @@ module _ {list st : List ℕ} {x : Tidying} (t : Tidies list st x) (accepted : A
   form-sound : loose.Sound (tidyForm list) st
   form-sound = loose.sound-tidy (passed .sound)
 
-  written-again : {y : Tidying} → Tidies (tidyList x) st y → length (tidyList x) ≤ length (y .before) → Writes (tidyList x) (figuresIn (x .answer) .entries) y
+  written-again : {y : ListCall} → Tidies (listOut x) st y → length (listOut x) ≤ length (y .before) → Writes (listOut x) (figuresIn (x .answer) .entries) y
   written-again u room = writes-back (tidyForm list) list-told entries-told (settled-tidy (recordsOf list)) form-few form-sound u room
 
   -- with the stored block of the loose list
@@ -153,10 +155,10 @@ module _ {list st : List ℕ} {x : Tidying} (t : Tidies list st x) (accepted : A
     pub inputs-form : inputsRuling (encode (tidyForm list)) block st ≡ Fine
     inputs-form = inputs-written (tidyForm list) block st form-few (form-sound .store-most) form-readable
 
-    checked-form : (k : ℕ) → k < figuresIn (x .answer) .entries → checked (tidyList x) block st k ≡ Accepted (lengthOnly 0)
+    checked-form : (k : ℕ) → k < figuresIn (x .answer) .entries → checked (listOut x) block st k ≡ Accepted (lengthOnly 0)
     checked-form k lt = rw (list-told, inputs-form, records-encode (tidyForm list), lt-ltb k (length (tidyForm list)) (omega (arith, entries-told)))
 
-    rebuilt-form : {y : Rebuilding} → Rebuilt (tidyList x) block st (y .before) (y .answer) (y .after) → whole (recordsOf list) ≤ length (y .before)
+    rebuilt-form : {y : Rebuilding} → Rebuilt (listOut x) block st (y .before) (y .answer) (y .after) → whole (recordsOf list) ≤ length (y .before)
         → (y .answer ≡ Accepted (lengthOnly (whole (recordsOf list)))) × (y .after ≡ over (rebuilt (recordsOf list) block st) (y .before))
     rebuilt-form {y} u room =
         let l = tidyForm list in
@@ -176,8 +178,8 @@ pub same-of-origins : (l k : List Record) → origins l ≡ origins k → SameOr
 same-of-origins l k e =
     record { equally-many = sym (length-origins l) ∙ ap length e ∙ length-origins k; each-byte = λ i lt. ap (λ (o : List Origin). getD o i fresh) e }
 
-pub one-form : (list₁ list₂ st₁ st₂ : List ℕ) (x y : Tidying) → Tidies list₁ st₁ x → Accepts (x .answer) → Tidies list₂ st₂ y → Accepts (y .answer)
-    → (tidyList x ≡ tidyList y → SameOrigins (recordsOf list₁) (recordsOf list₂)) × (SameOrigins (recordsOf list₁) (recordsOf list₂) → tidyList x ≡ tidyList y)
+pub one-form : (list₁ list₂ st₁ st₂ : List ℕ) (x y : ListCall) → Tidies list₁ st₁ x → Accepts (x .answer) → Tidies list₂ st₂ y → Accepts (y .answer)
+    → (listOut x ≡ listOut y → SameOrigins (recordsOf list₁) (recordsOf list₂)) × (SameOrigins (recordsOf list₁) (recordsOf list₂) → listOut x ≡ listOut y)
 one-form list₁ list₂ st₁ st₂ x y t a u b =
     let exactly = tidy-exactly (recordsOf list₁) (recordsOf list₂) (passed t a .sound .sized) (passed u b .sound .sized) in (
       λ e. same-of-origins (recordsOf list₁) (recordsOf list₂) (exactly .0 (eq-of-encode (tidyForm list₁) (tidyForm list₂) (sym (list-told t a) ∙ e ∙ list-told u b))),
@@ -195,7 +197,7 @@ module _ {q : Ruling} {p : Price} {list v st : List ℕ} {c : List Bit} {looks i
   entries-are = ap (λ (r : Answer). figuresIn r .entries) (decided-answer made fine)
 
   -- tidy writes it back
-  handed-back : {y : Tidying} → IsChoice (recordsOf list) c → Tidies (writtenList x) st y → length (writtenList x) ≤ length (y .before)
+  handed-back : {y : ListCall} → IsChoice (recordsOf list) c → Tidies (writtenList x) st y → length (writtenList x) ≤ length (y .before)
       → Writes (writtenList x) (figuresIn (x .answer) .entries) y
   handed-back h t room =
       let w = well-formed-written s c h in
@@ -203,10 +205,10 @@ module _ {q : Ruling} {p : Price} {list v st : List ℕ} {c : List Bit} {looks i
       writes-back l (list-written made fine) entries-are (settled-tidy (chosen (recordsOf list) c)) (count-written s c h) sound-list t room
 
   -- and of the list handed in it writes the same, where the choice keeps all
-  all-kept : {y : Tidying} → l ≡ tidyForm list → Tidies list st y → length list ≤ length (y .before) → Writes (writtenList x) (figuresIn (x .answer) .entries) y
+  all-kept : {y : ListCall} → l ≡ tidyForm list → Tidies list st y → length list ≤ length (y .before) → Writes (writtenList x) (figuresIn (x .answer) .entries) y
   all-kept {y} e t room =
       let admitted : tidyRuling list st (length (y .before)) ≡ Fine =
-      rw (le-leb (length st) storeMost (s .fits .store-most), s .fits .list-fits, le-leb (length list) (length (y .before)) room, loose-of-version v st list (s .fits .version-most) (s .covered .walk-fine)) in
+      rw (le-leb (length st) storeMost (s .fits .store-most), s .fits .list-fits, le-leb (length list) (length (y .before)) room, loose-of-version v st list (s .fits .version-most) (loosened-fine (loosened-version v st list) (s .covered .walk-fine))) in
       writes-form l t admitted (sym e) (list-written made fine) entries-are
 
 -- admitted inputs of partition and pass
@@ -253,7 +255,7 @@ module _ {list st first first′ : List ℕ} {r : Answer} (made : Tidied list st
   once-refused q = record { once = made; again = λ a. absurd (rw q at a); same = λ a. absurd (rw q at a); or-none = λ y e. (e, refl) }
 
   module _ {f : Figures} (q : r ≡ Accepted f) where
-    abbrev once : Tidying
+    abbrev once : ListCall
     once = record { before = first; answer = r; after = first′ }
 
     is-accepted : Accepts r
@@ -271,7 +273,7 @@ module _ {list st first first′ : List ℕ} {r : Answer} (made : Tidied list st
         → TwoCalls list st first second (record { once = Accepted f; again = s }) first′ second′
     tidied-again {m} {second} {second′} {s} e u =
         let m-is : m ≡ 12 * figuresIn r .entries = e ∙ ap (λ (a : Answer). 12 * figuresIn a .entries) (sym q) in
-        let v : Tidied (tidyList once) st second s second′ = subst (λ (k : ℕ). Tidied (take k first′) st second s second′) m-is u in
+        let v : Tidied (listOut once) st second s second′ = subst (λ (k : ℕ). Tidied (take k first′) st second s second′) m-is u in
         let told : r ≡ Accepted (entriesOnly (figuresIn r .entries)) =
         rw (fine {x = once} made is-accepted) at (made .answered) ∙ ap (λ (k : ℕ). Accepted (entriesOnly k)) (sym (entries-told {x = once} made is-accepted)) in
         let both : TwoCalls list st first second (record { once = r; again = s }) first′ second′ =

@@ -23,7 +23,7 @@ use Rattle.call_partition.specs.Partition.{Partitioned}
 use Rattle.call_pass.specs.Pass.{PassMade}
 use Rattle.demand.specs.Demand.{Call, Rebuilding, writtenList, writtenBlock}
 use Rattle.demand.specs.Split.{Commits}
-use Rattle.demand.specs.Tidying.{Tidying, Tidies, tidyList, SameOrigins}
+use Rattle.demand.specs.Tidying.{ListCall, Tidies, listOut, SameOrigins}
 
 -- the call x is one of rebuild, and accepted
 pub record Rebuilds (list block st : List ℕ) (x : Rebuilding) : Type 0 where
@@ -56,17 +56,17 @@ pub record ComparingLaws : Type 0 where
   pub different-bytes : (first second block₁ block₂ st : List ℕ) (x y : Rebuilding) → Rebuilds first block₁ st x → Rebuilds second block₂ st y
       → (writtenVersion x ≡ writtenVersion y → ⊥) → compared first second block₁ block₂ st ≡ saysNo
   -- clause 8.3.3: where neither is refused, yes exactly where tidy writes the same list of both and the stored blocks are the same
-  pub by-tidy-forms : (first second block₁ block₂ st : List ℕ) (x y : Tidying) → Accepts (compared first second block₁ block₂ st)
+  pub by-tidy-forms : (first second block₁ block₂ st : List ℕ) (x y : ListCall) → Accepts (compared first second block₁ block₂ st)
       → Tidies first st x → Accepts (x .answer) → Tidies second st y → Accepts (y .answer)
-      → Exactly (compared first second block₁ block₂ st) ((tidyList x ≡ tidyList y) × (block₁ ≡ block₂))
+      → Exactly (compared first second block₁ block₂ st) ((listOut x ≡ listOut y) × (block₁ ≡ block₂))
   -- clause 8.3.4: a list and itself: yes, or the list's refusal
   pub itself : (list block st : List ℕ) → compared list list block block st ≡ answer (inputsRuling list block st) (yesOrNo true)
   -- clause 8.3.5: the order of the two does not matter, where neither is refused
   pub either-order : (first second block₁ block₂ st : List ℕ) → inputsRuling first block₁ st ≡ Fine → inputsRuling second block₂ st ≡ Fine
       → compared first second block₁ block₂ st ≡ compared second first block₂ block₁ st
   -- clause 8.3.6: a list and what tidy wrote of it, with its stored block: yes, or the list's refusal
-  pub of-tidy : (list block st : List ℕ) (x : Tidying) → Tidies list st x → Accepts (x .answer)
-      → compared list (tidyList x) block block st ≡ answer (inputsRuling list block st) (yesOrNo true)
+  pub of-tidy : (list block st : List ℕ) (x : ListCall) → Tidies list st x → Accepts (x .answer)
+      → compared list (listOut x) block block st ≡ answer (inputsRuling list block st) (yesOrNo true)
   -- clause 8.3.7: a list, the version that rebuild wrote of it, and what partition, pass or commit wrote of both: yes exactly where the choice keeps all
   -- matches
   pub of-partition : (p : Price) (list block st : List ℕ) (x : Call) (y : Rebuilding) → Rebuilds list block st y

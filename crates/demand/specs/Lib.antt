@@ -8,4 +8,5 @@ pub mod NoRuns
 pub mod Marks
 pub mod Split
 pub mod Tidying
+pub mod Pooling
 pub mod Comparing

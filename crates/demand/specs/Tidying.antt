@@ -1,6 +1,6 @@
 -- The laws of check_loose and tidy (sections 4.11, 4.12 and 8.7), by the contracts of the calls.
 --
--- In order: a call of tidy; when two lists have the same origins; the laws, a field for each; tidying twice as one function makes it.
+-- In order: a call with a list area; a call of tidy; when two lists have the same origins; the laws, a field for each; tidying twice as one function makes it.
 -- Assumes nothing.
 use Prim.Native.Nat.{ℕ, _≤_, _<_}
 use mathlib.Core.Path.{_≡_}
@@ -29,22 +29,22 @@ use Rattle.demand.specs.declared.TwiceTidied.{TwiceTidied}
 use Rattle.demand.specs.Demand.{Call, Rebuilding, listWritten, writtenList}
 use Rattle.demand.specs.Split.{Commits}
 
--- a call of tidy, with its one area
-pub record Tidying : Type 0 where
+-- a call of tidy or pool, with its one area, for a list
+pub record ListCall : Type 0 where
   pub before : List ℕ
   pub answer : Answer
   pub after : List ℕ
 
 -- the call x is one of tidy, by its contract
-abbrev pub Tidies : List ℕ → List ℕ → Tidying → Type 0
+abbrev pub Tidies : List ℕ → List ℕ → ListCall → Type 0
 Tidies list st x = Tidied list st (x .before) (x .answer) (x .after)
 
 -- the list that it wrote: as many records of its area as its answer says
-abbrev pub tidyList : Tidying → List ℕ
-tidyList x = listWritten (x .answer) (x .after)
+abbrev pub listOut : ListCall → List ℕ
+listOut x = listWritten (x .answer) (x .after)
 
 -- it wrote this list, of n records, and no other byte
-pub record Writes (list : List ℕ) (n : ℕ) (x : Tidying) : Type 0 where
+pub record Writes (list : List ℕ) (n : ℕ) (x : ListCall) : Type 0 where
   pub answered : x .answer ≡ Accepted (entriesOnly n)
   pub area-after : x .after ≡ over list (x .before)
 
@@ -65,30 +65,30 @@ pub record TidyingLaws : Type 0 where
   pub refused-alike : (list st area : List ℕ) (r : Refusal) → length list ≤ length area
       → (tidyAnswer list st area ≡ Refused r → looseChecked list st ≡ Refused r) × (looseChecked list st ≡ Refused r → tidyAnswer list st area ≡ Refused r)
   -- clauses 4.12.2 and 4.12.3: of what tidy wrote no two neighbours are new or join, and each byte has the origin that it had
-  pub none-joins : (list st : List ℕ) (x : Tidying) → Tidies list st x → Accepts (x .answer) → Settled (recordsOf (tidyList x))
-  pub origins-stay : (list st : List ℕ) (x : Tidying) → Tidies list st x → Accepts (x .answer) → SameOrigins (recordsOf list) (recordsOf (tidyList x))
+  pub none-joins : (list st : List ℕ) (x : ListCall) → Tidies list st x → Accepts (x .answer) → Settled (recordsOf (listOut x))
+  pub origins-stay : (list st : List ℕ) (x : ListCall) → Tidies list st x → Accepts (x .answer) → SameOrigins (recordsOf list) (recordsOf (listOut x))
   -- clause 8.7.1: tidying what tidy wrote gives the same bytes and the same number
-  pub twice : (list st : List ℕ) (x y : Tidying) → Tidies list st x → Accepts (x .answer) → Tidies (tidyList x) st y → length (tidyList x) ≤ length (y .before)
-      → Writes (tidyList x) (figuresIn (x .answer) .entries) y
+  pub twice : (list st : List ℕ) (x y : ListCall) → Tidies list st x → Accepts (x .answer) → Tidies (listOut x) st y → length (listOut x) ≤ length (y .before)
+      → Writes (listOut x) (figuresIn (x .answer) .entries) y
   -- clause 8.7.2: the stored block needs no change: check accepts the tidy form with it, number 5 included, at each record
-  pub checked-with-block : (list block st : List ℕ) (x : Tidying) (k : ℕ) → Tidies list st x → Accepts (x .answer) → length block ≡ stored (recordsOf list)
-      → k < figuresIn (x .answer) .entries → checked (tidyList x) block st k ≡ Accepted (lengthOnly 0)
+  pub checked-with-block : (list block st : List ℕ) (x : ListCall) (k : ℕ) → Tidies list st x → Accepts (x .answer) → length block ≡ stored (recordsOf list)
+      → k < figuresIn (x .answer) .entries → checked (listOut x) block st k ≡ Accepted (lengthOnly 0)
   -- and rebuild makes of it what the loose list stands for
-  pub rebuilt-with-block : (list block st : List ℕ) (x : Tidying) (y : Rebuilding) → Tidies list st x → Accepts (x .answer) → length block ≡ stored (recordsOf list)
-      → Rebuilt (tidyList x) block st (y .before) (y .answer) (y .after) → whole (recordsOf list) ≤ length (y .before)
+  pub rebuilt-with-block : (list block st : List ℕ) (x : ListCall) (y : Rebuilding) → Tidies list st x → Accepts (x .answer) → length block ≡ stored (recordsOf list)
+      → Rebuilt (listOut x) block st (y .before) (y .answer) (y .after) → whole (recordsOf list) ≤ length (y .before)
       → (y .answer ≡ Accepted (lengthOnly (whole (recordsOf list)))) × (y .after ≡ over (rebuilt (recordsOf list) block st) (y .before))
   -- clause 8.7.3: two accepted lists have one tidy form exactly when their origins are the same
-  pub exactly-when : (list₁ list₂ st₁ st₂ : List ℕ) (x y : Tidying) → Tidies list₁ st₁ x → Accepts (x .answer) → Tidies list₂ st₂ y → Accepts (y .answer)
-      → (tidyList x ≡ tidyList y → SameOrigins (recordsOf list₁) (recordsOf list₂)) × (SameOrigins (recordsOf list₁) (recordsOf list₂) → tidyList x ≡ tidyList y)
+  pub exactly-when : (list₁ list₂ st₁ st₂ : List ℕ) (x y : ListCall) → Tidies list₁ st₁ x → Accepts (x .answer) → Tidies list₂ st₂ y → Accepts (y .answer)
+      → (listOut x ≡ listOut y → SameOrigins (recordsOf list₁) (recordsOf list₂)) × (SameOrigins (recordsOf list₁) (recordsOf list₂) → listOut x ≡ listOut y)
   -- clause 8.7.4: of a list that partition, pass or commit wrote, tidy writes that list
-  pub of-partition : (p : Price) (list v st : List ℕ) (x : Call) (y : Tidying) → Partitioned p list v st (x .before) (x .answer) (x .after) → Accepts (x .answer)
+  pub of-partition : (p : Price) (list v st : List ℕ) (x : Call) (y : ListCall) → Partitioned p list v st (x .before) (x .answer) (x .after) → Accepts (x .answer)
       → Tidies (writtenList x) st y → length (writtenList x) ≤ length (y .before) → Writes (writtenList x) (figuresIn (x .answer) .entries) y
-  pub of-pass : (p : Price) (list v st : List ℕ) (x : Call) (y : Tidying) → PassMade p list v st (x .before) (x .answer) (x .after) → Accepts (x .answer)
+  pub of-pass : (p : Price) (list v st : List ℕ) (x : Call) (y : ListCall) → PassMade p list v st (x .before) (x .answer) (x .after) → Accepts (x .answer)
       → Tidies (writtenList x) st y → length (writtenList x) ≤ length (y .before) → Writes (writtenList x) (figuresIn (x .answer) .entries) y
-  pub of-commit : (p : Price) (list v st : List ℕ) (x : Call) (y : Tidying) → Commits p list v st x → Accepts (x .answer)
+  pub of-commit : (p : Price) (list v st : List ℕ) (x : Call) (y : ListCall) → Commits p list v st x → Accepts (x .answer)
       → Tidies (writtenList x) st y → length (writtenList x) ≤ length (y .before) → Writes (writtenList x) (figuresIn (x .answer) .entries) y
   -- clause 8.7.5: of a tight list, tidy writes what a commitment with 0 for each match writes
-  pub keeping-all : (p : Price) (list v st : List ℕ) (x : Call) (y : Tidying) → x .before .choice ≡ bitBytes (keepAll (recordsOf list)) → Commits p list v st x
+  pub keeping-all : (p : Price) (list v st : List ℕ) (x : Call) (y : ListCall) → x .before .choice ≡ bitBytes (keepAll (recordsOf list)) → Commits p list v st x
       → Accepts (x .answer) → Tidies list st y → length list ≤ length (y .before) → Writes (writtenList x) (figuresIn (x .answer) .entries) y
 
 -- ---- the calls as one function makes them

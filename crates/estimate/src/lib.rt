@@ -2,11 +2,8 @@
 //
 // The least choice comes from the sweeps. Its list is not written: its entries and stored bytes are counted, record by record beside the one before.
 ghost use mathlib.Core.Path.{_≡_};
-ghost use Prim.Native.Nat.{_≤_};
-ghost use mathlib.Core.Bool.{cond};
 ghost use mathlib.Core.List.{[], _∷_};
 ghost use Rattle.format.specs.Meaning.{stored};
-ghost use Rattle.join.specs.Open.{follows};
 ghost use Rattle.estimate.specs.Estimate.{estimateAnswer, estimateArea};
 ghost use Rattle.estimate.specs.Count.{CountReady, CountsOf};
 use format::Answer;
@@ -20,16 +17,6 @@ use walk::Walked;
 pub struct Counts {
     pub entries: u32,
     pub stored: u32,
-}
-
-// The entries that a record adds after the one before it: none where the two join.
-fn entries_in(before: Open, record: Record) -> u32
-    ensures { λ r. ⌜ (r ≡ cond (follows before «record») 0 1) × (r ≤ 1) ⌝ }
-{
-    if join::follows(before, record) {
-        return 0;
-    }
-    1
 }
 
 // The stored bytes of a record.
@@ -54,7 +41,7 @@ fn count(list: &[u8], choice: &[u8]) -> Counts
     let mut i = 0;
     while i < n {
         let record = choice::chosen(format::record_at(list, i), choice[i]);
-        entries += entries_in(last, record);
+        entries += join::entries_in(last, record);
         stored += stored_in(record);
         last = Open::One(record);
         i += 1;

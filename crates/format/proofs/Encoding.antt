@@ -125,7 +125,7 @@ word-forth a b c d ha hb hc hd =
     let e₃ : x / 16777216 ≡ d = omega arith in
     rw (e₀, y₁, e₁, y₂, e₂, e₃)
 
-one-more : (l : List ℕ) (at : ℕ) → at < length l → drop at l ≡ getD l at 0 ∷ drop (at + 1) l
+pub one-more : (l : List ℕ) (at : ℕ) → at < length l → drop at l ≡ getD l at 0 ∷ drop (at + 1) l
 one-more l at h = drop-cons l at 0 h ∙ ap (λ (j : ℕ). getD l at 0 ∷ drop j l) (sym (add-one at))
 
 four-bytes : (l : List ℕ) (at : ℕ) → at + 4 ≤ length l → take 4 (drop at l) ≡ getD l at 0 ∷ getD l (at + 1) 0 ∷ getD l (at + 2) 0 ∷ getD l (at + 3) 0 ∷ []

@@ -1,18 +1,19 @@
--- There is an origin for each byte; and the test whether the origins are the same is one of equality.
+-- There is an origin for each byte, and as many are new as bytes are stored; and the test whether the origins are the same is one of equality.
 -- Assumes nothing.
-use Prim.Native.Nat.{ℕ, _+_, _<_}
+use Prim.Native.Nat.{ℕ, zero, suc, _+_, _<_}
 use native.Mathlib.Omega.{arith}
 use mathlib.Core.Path.{_≡_, refl, sym, _∙_, ap, ap₂}
 use mathlib.Core.Bool.{Bool, true, false, _&&_, Bool·beq, and-assoc}
 use mathlib.Core.List.{List, [], _∷_, _++_}
 use lib.Dec.{eqb}
-use lib.ListN.{length, length-append, length-replicate}
+use lib.ListN.{length, replicate, length-append, length-replicate}
 use lib.Seq.{ext-getD}
 use borrow.Author.Tests.{eqb-true, eq-eqb}
 use Rattle.format.specs.declared.Source.{Source}
 use Rattle.format.specs.declared.Record.{Record}
 use Rattle.format.specs.declared.Record.the-variants.{New, Match}
-use Rattle.format.specs.Meaning.{sizeOf, whole}
+use Rattle.format.specs.Record.{from}
+use Rattle.format.specs.Meaning.{sizeOf, whole, stored}
 use Rattle.format.specs.Origins.{Origin, fresh, drawn, drawnAt, originsOf, origins, originAt, sameSource, sameOrigin, sameOrigins}
 use Rattle.format.proofs.Rulings.{both-of-and, and-of-both, beq-self, beq-true}
 use Rattle.format.proofs.Rows.{length-from}
@@ -30,6 +31,26 @@ length-origins (r ∷ l) = length-append (originsOf r) (origins l) ∙ ap₂ (λ
 -- two lists that cover equally many bytes, each of one origin in both
 pub origins-alike : (l k : List Record) → whole l ≡ whole k → ((i : ℕ) → i < whole l → originAt l i ≡ originAt k i) → origins l ≡ origins k
 origins-alike l k e h = ext-getD fresh (origins l) (origins k) (length-origins l ∙ e ∙ sym (length-origins k)) (λ i lt. h i (omega (arith, length-origins l)))
+
+-- ---- as many new origins as stored bytes
+
+abbrev pub freshes : List Origin → ℕ
+freshes [] = 0
+freshes (fresh ∷ os) = suc (freshes os)
+freshes (drawn a ∷ os) = freshes os
+
+freshes-new : (s : ℕ) (os : List Origin) → freshes (replicate s fresh ++ os) ≡ s + freshes os
+freshes-new zero os = omega arith
+freshes-new (suc s) os = omega (arith, freshes-new s os)
+
+freshes-run : (held : Bool) (s a : ℕ) (os : List Origin) → freshes (from (drawnAt held) a s ++ os) ≡ freshes os
+freshes-run held zero a os = refl
+freshes-run held (suc s) a os = freshes-run held s (a + 1) os
+
+pub freshes-stored : (l : List Record) → freshes (origins l) ≡ stored l
+freshes-stored [] = refl
+freshes-stored (New s ∷ l) = omega (arith, freshes-new s (origins l), freshes-stored l)
+freshes-stored (Match s a ∷ l) = freshes-run (a .held) s (a .address) (origins l) ∙ freshes-stored l
 
 -- ---- the test is one of equality
 

@@ -3,7 +3,7 @@
 use Prim.Native.Nat.{ℕ}
 use mathlib.Core.Bool.{Bool, true, false}
 use Rattle.format.specs.declared.Fault.{Fault}
-use Rattle.format.specs.declared.Fault.the-variants.{Price, TooLong, ListLength, Malformed, Adjacent, Sizes, OutsideStore, Mismatch, AreaTooShort, BlockLength, NoSuchRecord, Choice}
+use Rattle.format.specs.declared.Fault.the-variants.{Price, TooLong, ListLength, Malformed, Adjacent, Sizes, OutsideStore, Mismatch, AreaTooShort, BlockLength, NoSuchRecord, Choice, TooManyRecords}
 use Rattle.format.specs.declared.Refusal.{Refusal}
 use Rattle.format.specs.declared.Ruling.{Ruling}
 use Rattle.format.specs.declared.Ruling.the-variants.{Fine, Stop}
@@ -25,6 +25,7 @@ number AreaTooShort = 9
 number BlockLength = 10
 number NoSuchRecord = 11
 number Choice = 12
+number TooManyRecords = 13
 
 -- of a refusal: a fault, and the record concerned, or 0
 abbrev pub refuse : Fault → ℕ → Refusal

@@ -10,14 +10,16 @@ ghost use Rattle.format.specs.Refusal.{number, refuse, lengthOnly, entri
 ghost use Rattle.format.specs.Record.{wordAt, rowAt, recordOf};
 ghost use Rattle.format.specs.Meaning.{sizeOf};
 
-// The limits, in bytes: the longest version, the longest store, the longest list.
+// The limits: the longest version, store and list, in bytes; the most records of a list.
 pub const VERSION_MOST: usize = 16777216;
 
 pub const STORE_MOST: usize = 268435456;
 
 pub const LIST_MOST: usize = 49152;
 
-// What is at fault, in the order of the numbers 1 to 12 (`number`).
+pub const RECORDS_MOST: u32 = 4096;
+
+// What is at fault, in the order of the numbers 1 to 13 (`number`).
 pub enum Fault {
     Price,
     TooLong,
@@ -31,6 +33,7 @@ pub enum Fault {
     BlockLength,
     NoSuchRecord,
     Choice,
+    TooManyRecords,
 }
 
 // A fault, and the record concerned, counted from 0; 0 where no record is concerned.
@@ -99,6 +102,7 @@ pub fn number_of(fault: Fault) -> u32
         Fault::BlockLength => 10,
         Fault::NoSuchRecord => 11,
         Fault::Choice => 12,
+        Fault::TooManyRecords => 13,
     }
 }
 

@@ -63,3 +63,11 @@ entries-behind q (r ∷ l) = go (joins q r) refl (λ p. entries-behind p l)
 pub entries-tidy : (l : List Record) → length (tidy l) ≡ entriesAfter No l
 entries-tidy [] = refl
 entries-tidy (r ∷ l) = omega (arith, entries-behind r l)
+
+-- they go by the tidy form alone
+entries-ahead : (o : Open) (l : List Record) → length (ahead o (tidy l)) ≡ length (pending o) + entriesAfter o l
+entries-ahead No l = omega (arith, entries-tidy l)
+entries-ahead (One r) l = entries-behind r l
+
+pub entries-alike : (o : Open) (l k : List Record) → tidy l ≡ tidy k → entriesAfter o l ≡ entriesAfter o k
+entries-alike o l k e = omega (arith, entries-ahead o l, entries-ahead o k, ap (λ (t : List Record). length (ahead o t)) e)

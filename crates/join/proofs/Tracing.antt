@@ -16,7 +16,7 @@ use Rattle.format.specs.WellFormed.{Sized}
 use Rattle.format.specs.Origins.{Origin, fresh, drawn, drawnAt, originsOf, origins, singles}
 use Rattle.format.specs.Marks.{bondOf, bonds}
 use Rattle.format.proofs.Rows.{from-add}
-use Rattle.join.specs.Join.{joins, goesOn, grown, join, tidy}
+use Rattle.join.specs.Join.{joins, goesOn, grown, join, tidy, gather}
 use Rattle.join.proofs.Joining.{goes-on, join-on, settled-tidy, tidy-settled}
 
 -- ---- joining keeps the origin of each byte
@@ -48,9 +48,6 @@ bonds-tidy l = ap (map bondOf) (origins-tidy l)
 
 -- ---- the tidy list of given origins
 
-abbrev pub gather : List Origin → List Record
-gather os = tidy (singles os)
-
 origins-singles : (os : List Origin) → origins (singles os) ≡ os
 origins-singles [] = refl
 origins-singles (fresh ∷ os) = ap (λ (x : List Origin). fresh ∷ x) (origins-singles os)
@@ -81,7 +78,7 @@ gather-run (suc (suc s)) a h os k =
     ap (join (Match 1 x)) (gather-run (suc s) (a + 1) h os (omega arith)) ∙ join-on (Match 1 x) (Match (suc s) y) (gather os) (on h a)
     ∙ ap (λ (n : ℕ). join (Match n x) (gather os)) (omega arith)
 
-gather-origin : (r : Record) (os : List Origin) → 1 ≤ sizeOf r → gather (originsOf r ++ os) ≡ join r (gather os)
+pub gather-origin : (r : Record) (os : List Origin) → 1 ≤ sizeOf r → gather (originsOf r ++ os) ≡ join r (gather os)
 gather-origin (New s) os h = gather-new s os h
 gather-origin (Match s a) os h = gather-run s (a .address) (a .held) os h
 

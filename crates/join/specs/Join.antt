@@ -1,4 +1,4 @@
--- Which neighbouring records join, and the tidy form of a list: clauses 3.4 to 3.7 and 3.12.
+-- Which neighbouring records join, and the tidy form of a list or of given origins: clauses 3.4 to 3.7, 3.12 and 3.13.
 -- Assumes nothing.
 use Prim.Native.Nat.{ℕ, _+_}
 use mathlib.Core.Path.{_≡_}
@@ -9,6 +9,7 @@ use Rattle.format.specs.declared.Source.{Source}
 use Rattle.format.specs.declared.Record.{Record}
 use Rattle.format.specs.declared.Record.the-variants.{New, Match}
 use Rattle.format.specs.Meaning.{sizeOf}
+use Rattle.format.specs.Origins.{Origin, singles}
 
 -- whether a match of s bytes drawn from a goes on in one drawn from b: its address is the first's address plus size, and both marks are equal (clause 3.6)
 abbrev pub goesOn : ℕ → Source → Source → Bool
@@ -40,6 +41,10 @@ join r (q ∷ l) = cond (joins r q) (grown r (sizeOf q) ∷ l) (r ∷ q ∷ l)
 abbrev pub tidy : List Record → List Record
 tidy [] = []
 tidy (r ∷ l) = join r (tidy l)
+
+-- the tidy list with these origins, one for each byte of the version
+abbrev pub gather : List Origin → List Record
+gather os = tidy (singles os)
 
 -- no two neighbours join
 abbrev pub Settled : List Record → Type 0

@@ -2,7 +2,8 @@
 //
 // `joins` alone says what joins; what is written, counted and priced follows from it.
 ghost use mathlib.Core.Path.{_≡_};
-ghost use Prim.Native.Nat.{_+_, _<_};
+ghost use mathlib.Core.Bool.{cond};
+ghost use Prim.Native.Nat.{_+_, _≤_, _<_};
 ghost use Rattle.join.specs.Join.{goesOn, joins, grown};
 ghost use Rattle.join.specs.Open.{openSize, follows};
 use format::Record;
@@ -55,6 +56,16 @@ pub fn follows(last: Open, record: Record) -> bool
         return false;
     };
     joins(waiting, record)
+}
+
+// The entries that a record adds after the one before it: none where the two join.
+pub fn entries_in(before: Open, record: Record) -> u32
+    ensures { λ r. ⌜ (r ≡ cond (follows before «record») 0 1) × (r ≤ 1) ⌝ }
+{
+    if follows(before, record) {
+        return 0;
+    }
+    1
 }
 
 // A record that another of so many bytes joined.

@@ -19,13 +19,14 @@ use Rattle.words.specs.Same.{sameBytes}
 use Rattle.walk.specs.declared.Seen.{Seen}
 use Rattle.walk.specs.declared.Scope.{Scope}
 use Rattle.walk.specs.declared.Scope.the-variants as scope
-use Rattle.walk.specs.Checks.{Check, four, five, six, seven, within, limitOf, tight, neighbours, beyond, checks, judged}
+use Rattle.walk.specs.Checks.{Check, four, five, six, seven, eight, within, limitOf, tight, neighbours, beyond, checks, judged}
 
 pub limit-most : (x : Scope) (v : List ℕ) → length v ≤ versionMost → limitOf x v ≤ versionMost
 limit-most scope.Sizes v h = omega arith
 limit-most scope.Store v h = omega arith
 limit-most scope.Loose v h = omega arith
 limit-most scope.Version v h = h
+limit-most scope.LooseVersion v h = h
 
 pub holds-of-fine : (c : Check) (cs : List Check) (s : Seen) (r : Row) → judged (c ∷ cs) s r ≡ Fine → (c .holds s r ≡ true) × (judged cs s r ≡ Fine)
 holds-of-fine c cs s r e =
@@ -39,7 +40,7 @@ judged-store s r e n x h = rw (e, h) (then-fine (need x OutsideStore (s .place))
 module _ (s : Seen) (r : Row) (v st : List ℕ) where
   -- a match, where the call has a version and a store
   pub judged-version : isNew r ≡ false → (x y : Bool) → within r (length st) ≡ x → sameBytes (take (r .size) (drop (s .offset) v)) (take (r .size) (drop (r .address) st)) ≡ y
-      → judged (beyond scope.Version v st) s r ≡ need x OutsideStore (s .place) then need y Mismatch (s .place)
+      → judged (seven (length st) ∷ eight v st ∷ []) s r ≡ need x OutsideStore (s .place) then need y Mismatch (s .place)
   judged-version e x y h k = rw (e, h, k) (ap (λ (q : Ruling). need x OutsideStore (s .place) then q) (then-fine (need y Mismatch (s .place))))
 
   -- a new record has no check beyond 6
@@ -48,6 +49,7 @@ module _ (s : Seen) (r : Row) (v st : List ℕ) where
   judged-new scope.Store e = rw e
   judged-new scope.Loose e = rw e
   judged-new scope.Version e = rw e
+  judged-new scope.LooseVersion e = rw e
 
   -- check 5, which is made where t is true
   apart-five : (t : Bool) (cs : List Check) → (isNew r && s .fresh) && t ≡ false → judged (cond t (five ∷ []) [] ++ cs) s r ≡ judged cs s r

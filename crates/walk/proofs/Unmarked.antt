@@ -26,6 +26,7 @@ module _ (x : Scope) (v st : List ℕ) where
       go scope.Store = refl
       go scope.Loose = refl
       go scope.Version = refl
+      go scope.LooseVersion = refl
 
   judged-bare : (s : Seen) (r : Row) → judged (checks x v st) s (bareRow r) ≡ judged (checks x v st) s r
   judged-bare s r = ap₂ (λ (t : Bool) (q : Ruling). need t Malformed (s .place) then q) (formed-bare r) (others-bare s r)

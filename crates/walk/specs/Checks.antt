@@ -49,6 +49,7 @@ limitOf scope.Sizes v = versionMost
 limitOf scope.Store v = versionMost
 limitOf scope.Loose v = versionMost
 limitOf scope.Version v = length v
+limitOf scope.LooseVersion v = length v
 
 -- new records may not stand side by side, but in a loose list (clause 1.14)
 abbrev pub tight : Scope → Bool
@@ -56,6 +57,7 @@ tight scope.Sizes = true
 tight scope.Store = true
 tight scope.Loose = false
 tight scope.Version = true
+tight scope.LooseVersion = false
 
 -- check 5, where it is made
 abbrev pub neighbours : Scope → List Check
@@ -67,6 +69,7 @@ beyond scope.Sizes v st = []
 beyond scope.Store v st = seven (length st) ∷ []
 beyond scope.Loose v st = seven (length st) ∷ []
 beyond scope.Version v st = seven (length st) ∷ eight v st ∷ []
+beyond scope.LooseVersion v st = seven (length st) ∷ eight v st ∷ []
 
 -- record by record 4, 5, 6, 7, 8 (clause 6.5)
 abbrev pub checks : Scope → List ℕ → List ℕ → List Check

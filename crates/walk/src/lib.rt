@@ -10,7 +10,7 @@ ghost use Rattle.format.specs.Limits.{versionMost, recordsMost};
 ghost use Rattle.format.specs.Refusal.{refuse};
 ghost use Rattle.format.specs.Record.{recordsOf, isNew};
 ghost use Rattle.words.specs.Same.{sameBytes};
-ghost use Rattle.walk.specs.Checks.{within, seven, limitOf, tight, beyond, checks, judged, walkRuling, next};
+ghost use Rattle.walk.specs.Checks.{within, seven, eight, limitOf, tight, beyond, checks, judged, walkRuling, next};
 ghost use Rattle.walk.specs.Walked.{Lengths, walked, refusalOf};
 use format::Fault;
 use format::Refusal;
@@ -20,12 +20,13 @@ use format::Ruling;
 // What the sizes may come to where a call has no version.
 const LIMIT: u32 = format::VERSION_MOST as u32;
 
-// What a call has beside the list: nothing; the store; the store, where the list is loose; version and store.
+// What a call has beside the list: nothing; the store; the store, where the list is loose; version and store; both, where the list is loose.
 pub enum Scope {
     Sizes,
     Store,
     Loose,
     Version,
+    LooseVersion,
 }
 
 // What was seen before a record: how many records, their sizes together, those of the new ones, and whether the last was new.
@@ -66,6 +67,7 @@ fn limit_of(scope: Scope, version: &[u8]) -> u32
         Scope::Store => LIMIT,
         Scope::Loose => LIMIT,
         Scope::Version => version.len() as u32,
+        Scope::LooseVersion => version.len() as u32,
     }
 }
 
@@ -100,6 +102,21 @@ fn judge_store(row: Row, seen: Seen, reach: usize) -> Ruling
     stop(Fault::OutsideStore, seen.place)
 }
 
+// Checks 7 and 8.
+fn judge_version(row: Row, seen: Seen, version: &[u8], store: &[u8]) -> Ruling
+    requires { ⌜ (isNew row ≡ false) × (seen .offset + row .size ≤ length (now version)) ⌝ }
+    ensures { λ r. ⌜ r ≡ judged (seven (length (now (store .entry))) ∷ eight (now (version .entry)) (now (store .entry)) ∷ []) seen row ⌝ }
+{
+    if in_store(row, store.len()) {
+        let at = format::index(seen.offset);
+        if equal(row, at, version, store) {
+            return Ruling::Fine;
+        }
+        return stop(Fault::Mismatch, seen.place);
+    }
+    stop(Fault::OutsideStore, seen.place)
+}
+
 // Checks 7 and 8 of a match, as far as the scope goes.
 fn judge_match(row: Row, seen: Seen, scope: Scope, version: &[u8], store: &[u8]) -> Ruling
     requires { ⌜ (isNew row ≡ false) × (seen .offset + row .size ≤ limitOf scope (now version)) ⌝ }
@@ -109,16 +126,8 @@ fn judge_match(row: Row, seen: Seen, scope: Scope, version: &[u8], store: &[u8])
         Scope::Sizes => Ruling::Fine,
         Scope::Store => judge_store(row, seen, store.len()),
         Scope::Loose => judge_store(row, seen, store.len()),
-        Scope::Version => {
-            if in_store(row, store.len()) {
-                let at = format::index(seen.offset);
-                if equal(row, at, version, store) {
-                    return Ruling::Fine;
-                }
-                return stop(Fault::Mismatch, seen.place);
-            }
-            stop(Fault::OutsideStore, seen.place)
-        }
+        Scope::Version => judge_version(row, seen, version, store),
+        Scope::LooseVersion => judge_version(row, seen, version, store),
     }
 }
 
@@ -131,6 +140,7 @@ fn is_tight(scope: Scope) -> bool
         Scope::Store => true,
         Scope::Loose => false,
         Scope::Version => true,
+        Scope::LooseVersion => false,
     }
 }
 

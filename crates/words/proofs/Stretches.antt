@@ -69,6 +69,14 @@ step-tells a b n q t u even some whole = go (ltb q (length a)) refl
 pub all-tell : (a b : List ℕ) (n : ℕ) {t : Bool} → length a ≡ length b → length a ≤ n → TellsFirst t n a b → Tells t a b
 all-tell a b n e h f = rw (take-all n a h, take-all n b (omega arith)) at f
 
+-- all from i on differ
+pub other-rest : (a b : List ℕ) (i : ℕ) {t : Bool} → Tells t (take (length a - i) (drop i a)) (take (length b - i) (drop i b)) → not t ≡ true → Tells false a b
+other-rest a b i {t} e f = (λ h. absurd (let z : _≡_ {A = ℕ} 0 1 = cc in omega arith), λ h. sym (not-true t f) ∙ e .1 (ap (λ (s : List ℕ). take (length s - i) (drop i s)) h))
+
+-- a block further, fewer are left
+pub less-left : (m i : ℕ) → i < m → m - (i + 64) < m - i
+less-left m i h = omega arith
+
 -- lists of one length whose first i elements are the same
 pub record Passed (a b : List ℕ) (i : ℕ) : Type 0 where
   pub within : i ≤ length a
@@ -98,6 +106,10 @@ module _ {a b : List ℕ} {i : ℕ} (p : Passed a b i) where
     where
       all : (s : List ℕ) → take (length s - i) (drop i s) ≡ drop i s
       all s = take-all (length s - i) (drop i s) (simp length-drop (omega arith))
+
+  -- and was found to be the same
+  pub ended-same : {t : Bool} → Tells t (take (length a - i) (drop i a)) (take (length b - i) (drop i b)) → not t ≡ false → Tells true a b
+  ended-same {t} e f = (λ h. ended e .0 (not-false t f), λ h. refl)
 
 -- fewer were passed too
 pub fewer : {a b : List ℕ} {i : ℕ} → Passed a b i → (j : ℕ) → j ≤ i → Passed a b j

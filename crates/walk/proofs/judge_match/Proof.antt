@@ -1,12 +1,4 @@
--- `walk::judge_match` meets its contract: each way out is what checks 7 and 8 come to there. Assumes nothing.
-use mathlib.Core.Path.{_≡_, refl, sym, _∙_}
-use mathlib.Core.Bool.{Bool, true, false}
-use native.Mathlib.Omega.{arith}
-use borrow.Author.Tests.{leb-true}
-use Rattle.format.specs.declared.Fault.the-variants.{Mismatch}
-use Rattle.format.specs.Refusal.{need}
-use Rattle.walk.specs.Checks.{beyond, judged}
-use Rattle.walk.proofs.Judged.{judged-version}
+-- `walk::judge_match` meets its contract, by the five scopes. Assumes nothing.
 use borrow.Author.Needs.{needs}
 use Rattle.walk.proofs.judge_match.Statement.{statement}
 use Rattle.walk.proofs.judge_match.Tie as tie
@@ -17,51 +9,26 @@ judge-store-requires c κs = search needs
 judge-store-requires-2 : tie.Need-judge-store-requires-2
 judge-store-requires-2 c κs = search needs
 
-in-store-requires : tie.Need-in-store-requires
-in-store-requires c κs = search needs
+judge-version-requires : tie.Need-judge-version-requires
+judge-version-requires c κs = rw (c .enum-told4 .given .1) at (c .before .before .before .before .pre)
 
-index-requires : tie.Need-index-requires
-index-requires c κs = search needs
-
-equal-requires : tie.Need-equal-requires
-equal-requires c κs =
-    let limit = rw (c .before .before .before .enum-told4 .given .1) at (c .before .before .before .before .before .before .before .pre .1) in
-    (omega (arith, limit, c .index .ensures .0), leb-true _ _ (sym (c .before .before .in-store .ensures) ∙ c .before .if1 .taken))
-
--- the match is in the store, and e tells whether its bytes are the version's
-compared : (c : tie.After-equal) (e : Bool) → c .equal .result ≡ e → let g = c .before .before .before .before .before .before .before .before .args in
-    judged (beyond (g .scope) (g .version .now) (g .store .now)) (g .seen) (g .row) ≡ need e Mismatch (g .seen .place)
-compared c e h =
-    let g = c .before .before .before .before .before .before .before .before .args in
-    let inside = sym (c .before .before .before .in-store .ensures) ∙ c .before .before .if1 .taken in
-    let same = rw (c .before .index .ensures .0) at (sym (c .equal .ensures)) ∙ h in
-    rw (c .before .before .before .before .enum-told4 .given .1) (judged-version (g .seen) (g .row) (g .version .now) (g .store .now) (c .before .before .before .before .before .before .before .before .pre .0) true e inside same)
+judge-version-requires-2 : tie.Need-judge-version-requires-2
+judge-version-requires-2 c κs = rw (c .enum-told5 .given .1) at (c .before .before .before .before .pre)
 
 returns : tie.Need-returns
-returns c = sym (compared (c .before) true (c .if2 .taken))
-
-stop-requires : tie.Need-stop-requires
-stop-requires c κs = search needs
+returns c = search needs
 
 returns-2 : tie.Need-returns-2
-returns-2 c = c .stop .ensures ∙ sym (compared (c .before .before) false (c .before .if2 .left))
-
-stop-requires-2 : tie.Need-stop-requires-2
-stop-requires-2 c κs = search needs
+returns-2 c = rw (c .before .enum-told2 .given .1) (c .judge-store .ensures)
 
 returns-3 : tie.Need-returns-3
-returns-3 c = search needs
+returns-3 c = rw (c .before .enum-told3 .given .1) (c .judge-store2 .ensures)
 
 returns-4 : tie.Need-returns-4
-returns-4 c = rw (c .before .enum-told2 .given .1) (c .judge-store .ensures)
+returns-4 c = rw (c .before .enum-told4 .given .1) (c .judge-version .ensures)
 
 returns-5 : tie.Need-returns-5
-returns-5 c = rw (c .before .enum-told3 .given .1) (c .judge-store2 .ensures)
-
-returns-6 : tie.Need-returns-6
-returns-6 c =
-    let g = c .before .before .before .before .before .before .before .args in
-    c .stop2 .ensures ∙ rw (c .before .before .before .enum-told4 .given .1) (sym (judged-version (g .seen) (g .row) (g .version .now) (g .store .now) (c .before .before .before .before .before .before .before .pre .0) false _ (sym (c .before .before .in-store .ensures) ∙ c .before .if1 .left) refl))
+returns-5 c = rw (c .before .enum-told5 .given .1) (c .judge-version2 .ensures)
 
 pub judge-match-spec : {M : Type 1} → statement M
 judge-match-spec =
@@ -73,14 +40,11 @@ judge-match-spec =
     (λ c. search needs)
     judge-store-requires-2
     (λ c. search needs)
-    in-store-requires
-    index-requires
-    equal-requires
+    judge-version-requires
+    (λ c. search needs)
+    judge-version-requires-2
     returns
-    stop-requires
     returns-2
-    stop-requires-2
     returns-3
     returns-4
-    returns-5
-    returns-6)
+    returns-5)

@@ -1,10 +1,10 @@
--- `words::same_words` meets its contract. Invariant: `Passed`, the blocks so far are the same. Measure: the bytes left. Assumes nothing.
+-- `words::same_words` meets its contract. Invariant: `Passed`, the blocks so far are the same. Measure: the bytes left before the last block. Assumes nothing.
 use Prim.Native.Nat.{_+_, _-_}
 use native.Mathlib.Omega.{arith}
 use mathlib.Core.Path.{refl}
 use lib.ListN.{length}
 use borrow.Author.Needs.{needs}
-use Rattle.words.proofs.Stretches.{Passed, started, stopped, went-on, fewer, ended, ends-tell, all-tell}
+use Rattle.words.proofs.Stretches.{Passed, other-rest, less-left, started, stopped, went-on, fewer, ended-same, ends-tell, all-tell}
 use Rattle.words.proofs.same_words.Statement.{statement}
 use Rattle.words.proofs.same_words.Tie as tie
 
@@ -12,7 +12,7 @@ abbrev Inv-loop : tie.InvT-loop
 Inv-loop a b n last i₀ i = Passed a b i
 
 abbrev μ-loop : tie.MeasureT-loop
-μ-loop a b n last i₀ i = length a - i
+μ-loop a b n last i₀ i = last - i
 
 returns : tie.Need-returns Inv-loop μ-loop
 returns c = let g = (c .before .before .before .args) in all-tell (g .a .now) (g .b .now) 0 (omega arith) (omega arith) (λ h. refl, λ h. refl)
@@ -41,12 +41,6 @@ same-four-requires-2 c κs = search needs
 returns-4 : tie.Need-returns-4 Inv-loop μ-loop
 returns-4 c = let g = (c .before .before .before .before .before .before .before .before .args) in ends-tell (g .a .now) (g .b .now) 32 (c .before .same-four .result) (c .same-four2 .result) (omega arith) (omega arith) (omega arith) (c .before .same-four .ensures) (c .same-four2 .ensures)
 
-loop-holds : tie.Need-loop-holds Inv-loop μ-loop
-loop-holds c = started (c .before .before .before .before .before .before .args .a .now) (c .before .before .before .before .before .before .args .b .now) (omega arith)
-
-add-end : tie.Need-add-end Inv-loop μ-loop
-add-end c = omega arith
-
 sub-same-block : tie.Need-sub-same-block Inv-loop μ-loop
 sub-same-block c = omega arith
 
@@ -69,13 +63,13 @@ same-block-requires : tie.Need-same-block-requires Inv-loop μ-loop
 same-block-requires c κs = search needs
 
 returns-5 : tie.Need-returns-5 Inv-loop μ-loop
-returns-5 c = stopped (c .before .before .before .before .before .loop .inv) (c .before .before .before .before .before .loop .i + 64) (c .before .same-block .ensures) (c .if5 .taken)
+returns-5 c = let g = c .before .before .before .before .before .before .before .before .before .before .args in other-rest (g .a .now) (g .b .now) (length (g .a .now) - 64) (c .before .same-block .ensures) (c .if5 .taken)
 
-loop-less : tie.Need-loop-less Inv-loop μ-loop
-loop-less c = omega arith
+loop-holds : tie.Need-loop-holds Inv-loop μ-loop
+loop-holds c = let g = c .before .before .before .before .before .before .before .before .before .before .args in started (g .a .now) (g .b .now) (omega arith)
 
-loop-again : tie.Need-loop-again Inv-loop μ-loop
-loop-again c = went-on (c .before .before .before .before .before .loop .inv) (c .before .before .before .before .before .loop .i + 64) (omega arith) (omega arith) (c .before .same-block .ensures) (c .if5 .left)
+add-end : tie.Need-add-end Inv-loop μ-loop
+add-end c = omega arith
 
 sub-same-block-3 : tie.Need-sub-same-block-3 Inv-loop μ-loop
 sub-same-block-3 c = omega arith
@@ -99,7 +93,19 @@ same-block-requires-2 : tie.Need-same-block-requires-2 Inv-loop μ-loop
 same-block-requires-2 c κs = search needs
 
 returns-6 : tie.Need-returns-6 Inv-loop μ-loop
-returns-6 c = ended (fewer (c .before .before .before .before .loop .inv) (length (c .before .before .before .before .before .before .before .before .before .before .before .args .a .now) - 64) (omega arith)) (c .same-block2 .ensures)
+returns-6 c = stopped (c .before .before .before .before .before .loop .inv) (c .before .before .before .before .before .loop .i + 64) (c .before .same-block2 .ensures) (c .if6 .taken)
+
+loop-less : tie.Need-loop-less Inv-loop μ-loop
+loop-less c = less-left _ _ (c .before .before .before .before .loop-test .taken)
+
+loop-again : tie.Need-loop-again Inv-loop μ-loop
+loop-again c = went-on (c .before .before .before .before .before .loop .inv) (c .before .before .before .before .before .loop .i + 64) (omega arith) (omega arith) (c .before .same-block2 .ensures) (c .if6 .left)
+
+-- the last block was the same
+returns-7 : tie.Need-returns-7 Inv-loop μ-loop
+returns-7 c =
+    let last = length (c .before .before .before .before .before .before .before .before .before .before .before .before .args .a .now) - 64 in
+    ended-same (fewer (c .before .loop .inv) last (omega arith)) (c .before .before .before .same-block .ensures) (c .before .before .if5 .left)
 
 pub same-words-spec : {M : Type 1} → statement M
 same-words-spec =
@@ -116,8 +122,6 @@ same-words-spec =
     same-four-requires
     same-four-requires-2
     returns-4
-    loop-holds
-    add-end
     sub-same-block
     part-same-block-start
     part-same-block-end
@@ -126,8 +130,8 @@ same-words-spec =
     part-same-block-end-2
     same-block-requires
     returns-5
-    loop-less
-    loop-again
+    loop-holds
+    add-end
     sub-same-block-3
     part-same-block-start-3
     part-same-block-end-3
@@ -135,4 +139,7 @@ same-words-spec =
     part-same-block-start-4
     part-same-block-end-4
     same-block-requires-2
-    returns-6)
+    returns-6
+    loop-less
+    loop-again
+    returns-7)

@@ -1,9 +1,9 @@
--- `estimate::entries_in` meets its contract. Assumes nothing.
+-- `join::entries_in` meets its contract. Assumes nothing.
 use native.Mathlib.Omega.{arith}
 use mathlib.Core.Path.{sym, _∙_}
 use borrow.Author.Needs.{needs}
-use Rattle.estimate.proofs.entries_in.Statement.{statement}
-use Rattle.estimate.proofs.entries_in.Tie as tie
+use Rattle.join.proofs.entries_in.Statement.{statement}
+use Rattle.join.proofs.entries_in.Tie as tie
 
 follows-requires : tie.Need-follows-requires
 follows-requires c κs = search needs
