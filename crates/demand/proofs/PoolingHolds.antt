@@ -25,7 +25,7 @@ use Rattle.format.specs.Record.{listFits, recordsOf, encode}
 use Rattle.format.specs.Meaning.{whole, stored, blockOf}
 use Rattle.format.specs.WellFormed.{WellFormed}
 use Rattle.format.specs.Origins.{Origin, fresh, drawn, origins, originAt, singles}
-use Rattle.format.proofs.Rulings.{fine-of-then, true-of-need, stop-of-refused, fine-of-accepts}
+use Rattle.format.proofs.Rulings.{stop-of-refused, fine-of-accepts}
 use Rattle.format.proofs.Encoding.{records-encode, length-encode}
 use Rattle.format.proofs.Rebuilding.{whole-agrees, inside-agrees}
 use Rattle.format.proofs.Tracing.{length-origins, freshes, freshes-stored}
@@ -140,12 +140,10 @@ module _ {first second v st : List ℕ} (f : pool.Listed first v st) (s : pool.L
       ∙ gather-origins (recordsOf second) (s .sized)
 
 -- a list that pool accepts has no fault for tidy
-tidy-fine : (list v st : List ℕ) (room : ℕ) → lengthsFit v st ≡ true → listRuling list v st ≡ Fine → length list ≤ room → tidyRuling list st room ≡ Fine
-tidy-fine list v st room lengths fine h =
+tidy-fine : {list v st : List ℕ} (room : ℕ) → lengthsFit v st ≡ true → pool.Listed list v st → length list ≤ room → tidyRuling list st room ≡ Fine
+tidy-fine {list} {v} {st} room lengths l h =
     let most = lengths-most v st lengths in
-    let a = fine-of-then (three v st list) (coverRuling scope.LooseVersion list v st) fine in
-    let b = fine-of-then (walkRuling (checks scope.LooseVersion v st) list) (short v st list) (a .1) in
-    rw (le-leb (length st) storeMost (most .1), true-of-need (listFits list) fault.ListLength 0 (a .0), le-leb (length list) room h, loose-of-version v st list (most .0) (b .0))
+    rw (le-leb (length st) storeMost (most .1), l .list-fits, le-leb (length list) room h, loose-of-version v st list (most .0) (l .walk-fine))
 
 -- ---- an accepted call of pool, and what it wrote
 
@@ -226,8 +224,8 @@ module _ {first second v st : List ℕ} {x : ListCall} (t : Pools first second v
       let sound : loose.Sound l st = record { store-most = most .1; sized = well-formed .sized; inside = inside-agrees st l v (well-formed .agrees); whole-most = omega (arith, whole-agrees st l v (well-formed .agrees), most .0) } in
       writes-back l list-told entries-told (settled-tidy (singles (pooled (origins (recordsOf first)) (origins (recordsOf second))))) (passed .few) sound u room
 
-  as-tidy : (list : List ℕ) {y : ListCall} → listRuling list v st ≡ Fine → l ≡ tidyForm list → Tidies list st y → length list ≤ length (y .before) → Writes (listOut x) (figuresIn (x .answer) .entries) y
-  as-tidy list {y} ruled form u room = writes-form l u (tidy-fine list v st (length (y .before)) lengths ruled room) (sym form) list-told entries-told
+  as-tidy : {list : List ℕ} {y : ListCall} → pool.Listed list v st → l ≡ tidyForm list → Tidies list st y → length list ≤ length (y .before) → Writes (listOut x) (figuresIn (x .answer) .entries) y
+  as-tidy {y = y} listed form u room = writes-form l u (tidy-fine (length (y .before)) lengths listed room) (sym form) list-told entries-told
 
 -- ---- a list with itself, refused or not
 
@@ -299,7 +297,7 @@ pooling-laws =
           rw (lengths t accepted, passed t accepted .both .first-fine, rw (lengths t accepted) at stop);
       never-five = λ first second v st area r e. not-five (poolRuling first second v st (length area)) r (not-five-pool first second v st (length area)) (stop-of-refused (poolRuling first second v st (length area)) (entriesOnly (length (pooledList first second))) r e);
       itself = λ list v st x t. self-told list v st t;
-      itself-as-tidy = λ list v st x y t a u room. as-tidy t a list (passed t a .both .first-fine) (form-of-self (first-listed t a)) u room;
+      itself-as-tidy = λ list v st x y t a u room. as-tidy t a (first-listed t a) (form-of-self (first-listed t a)) u room;
       partition-accepts = λ p first second v st x y t a made fits room. admitted t a p y made fits room;
       checked-with-block = λ first second v st x k t a lt. checked-told t a k lt;
       rebuilt-with-block = λ first second v st x y t a made room. rebuilt-told t a {y = y} made room;
@@ -309,8 +307,8 @@ pooling-laws =
             λ h. byte ∙ rw (h .0, h .1),
           );
       stores-no-more = λ first second v st x t a. stored-told t a;
-      second-without = λ first second v st x y t a h u room. as-tidy t a first (passed t a .both .first-fine) (form-of-first (first-listed t a) (second-listed t a) h) u room;
-      first-without = λ first second v st x y t a h u room. as-tidy t a second (passed t a .both .second-fine) (form-of-second (first-listed t a) (second-listed t a) h) u room;
+      second-without = λ first second v st x y t a h u room. as-tidy t a (first-listed t a) (form-of-first (first-listed t a) (second-listed t a) h) u room;
+      first-without = λ first second v st x y t a h u room. as-tidy t a (second-listed t a) (form-of-second (first-listed t a) (second-listed t a) h) u room;
       covers-version = λ first second v st x t a. whole-told t a;
       each-byte = λ first second v st x i t a lt. byte-told t a i lt;
       of-tidy = λ first second v st x y t a u room. tidied t a u room;

@@ -32,6 +32,8 @@ use Rattle.pool.specs.Pooling.{Alongside}
 -- ---- one list
 
 pub record Listed (list v st : List ℕ) : Type 0 where
+  pub list-fits : listFits list ≡ true
+  pub walk-fine : walkRuling (checks scope.LooseVersion v st) list ≡ Fine
   pub counted : Counted list
   pub sized : Sized (recordsOf list)
   pub whole-is : whole (recordsOf list) ≡ length v
@@ -42,10 +44,13 @@ listed-of-fine list v st h =
     let short = need (eqb (whole (recordsOf list)) (length v)) Sizes (length (recordsOf list)) in
     let a = fine-of-then (need (listFits list) ListLength 0) (coverRuling scope.LooseVersion list v st) h in
     let b = fine-of-then (walkRuling (checks scope.LooseVersion v st) list) short (a .1) in
+    let fits = true-of-need (listFits list) ListLength 0 (a .0) in
     let ends = eqb-true (whole (recordsOf list)) (length v) (true-of-need _ Sizes (length (recordsOf list)) (b .1)) in
     let each = each-of-fine (checks scope.LooseVersion v st) front (rowsOf list) (b .0) in
     record {
-      counted = counted-of-fits list (true-of-need (listFits list) ListLength 0 (a .0));
+      list-fits = fits;
+      walk-fine = b .0;
+      counted = counted-of-fits list fits;
       sized = sized-of-four front (rowsOf list) (each .0);
       whole-is = ends;
       agrees = agrees-of-eight v st front (rowsOf list) (each .1 .0) (each .1 .1 .0) (each .1 .1 .1 .0) (omega (arith, ends));
