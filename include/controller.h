@@ -299,6 +299,8 @@ uint32_t partition(uint32_t en, uint32_t em, uint32_t f,
  * Does: finds partition's choice, and gives cost, entries and stored bytes as partition would. It
  *   needs no area for list and stored block. What it answers does not shorten commit's areas: these
  *   are as long as the list handed in and the version, else commit refuses with 9.
+ *   The index bytes are (cost - 256 * stored bytes) / f. At a greater f, with all else the same,
+ *   there are no more of them, and no fewer stored bytes (section 8.9).
  * Areas: list, version and store as for partition; choice, at least 1 byte for each record.
  * Writes: the first bytes of choice, as partition does; answer (cost, entries and stored bytes).
  * Refuses, in this order: 1 at 0; 2 at 0; 3 at 0; 9 at 0, by choice alone; record by record 4, 5,

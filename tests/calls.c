@@ -4,7 +4,8 @@
  * wrong as a case needs it: X is kind 2, N may have an address, "!2" sets byte 2 to 7, and "!2=9" sets it to 9. Every area is longer than what a
  * case lends of it and is filled beforehand, and after the call it is looked at to its last byte: what the call should not write must still hold
  * the filling. A choice is written as its bytes, "101", X for 255. What partition gives, estimate and then commit must give too; the list that
- * partition wrote is handed in again, and must come back, and so must the lists that tidy and pool wrote. For each size up to 136 one case each of
+ * partition wrote is handed in again, and must come back, and so must the lists that tidy and pool wrote. Lists are given at rising factors, each
+ * factor beside every greater one, and each choice that is least at one is committed at every other. For each size up to 136 one case each of
  * partition, estimate, commit, pass and pool lets a match differ at every byte, and one of compare a stored stretch, at every pair of places within a
  * word. Compare is lent a store that cannot be read.
  * Exit 0 and one line, with the number of cases, where all is as it should be, else 1 and a line for each case that is not.
@@ -18,7 +19,7 @@
 
 #include "controller.h"
 
-#define CASES 6663
+#define CASES 7876
 #define FILL 0xA5
 #define AREA 256
 
@@ -720,9 +721,12 @@ static const struct accepted fractions[] = {
 
 /* A new entry cheaper or dearer than a match, where both take the same choice. In disk bytes: kept, sheet C costs 2 * 10 + 1 + 10; at EM 9 it
  * costs 2 * 10 + 9 + 10 kept and 10 + 29 stored, a tie. Sheet I's matches cost 1 + 18 stored, and the pass merges the first two, 12 + 1 being
- * below 2 * 10. A lone match of 4 costs 6 + 4 stored and 10 kept, a tie. */
+ * below 2 * 10. A lone match of 4 costs 6 + 4 stored and 10 kept, a tie. At F 320 a match is worth 12.5: the pass stores those of 10 and of 3, as rule 2
+ * has it, and then not the one of 14; the two costs are 320 * 11 + 256 * 15, and 320 + 256 * 29 with all stored. */
 #define LONE "M20@20 M4@8 M20@0"
 #define VERSION_LONE "UVWXYZabcdefghijklmnIJKLABCDEFGHIJKLMNOPQRST"
+#define BACKWARDS "N2 M10@0 M3@20 M14@26"
+#define VERSION_BACKWARDS "01ABCDEFGHIJUVWabcdefghijklmn"
 static const struct accepted two_prices[] = {
     { "sheet C at EN 10, EM 1", PRICED(10, 1, 256), SHEET_C, VERSION_C, "101", SHEET_C, "0123456789",
       { .cost = 256 * 31, .entries = 3, .stored = 10, .looks = 3 } },
@@ -731,6 +735,8 @@ static const struct accepted two_prices[] = {
     { "sheet I at EN 1, EM 10", PRICED(1, 10, 256), "M6@12 M6@6 M6@0", "MNOPQRGHIJKLABCDEF", "111", "N18", "MNOPQRGHIJKLABCDEF",
       { .cost = 256 * 19, .entries = 1, .stored = 18, .looks = 4 } },
     { "a lone match at EN 6, EM 10, a tie", PRICED(6, 10, 256), LONE, VERSION_LONE, "000", LONE, "", { .cost = 256 * 30, .entries = 3, .looks = 3 } },
+    { "matches of 10, 3 and 14 at F 320", PRICED(1, 10, 320), BACKWARDS, VERSION_BACKWARDS, "1110", "N15 M14@26", "01ABCDEFGHIJUVW",
+      { .cost = 7360, .entries = 2, .stored = 15, .looks = 4 } },
 };
 
 /* Matches that go on in the store where the one before them ended, at 10 disk bytes for an entry but where a price is said, and where both take
@@ -805,7 +811,8 @@ static const struct accepted held[] = {
 
 /* Where the pass takes another choice than partition. Of sheet I's matches, and at EN 12 of sheet H's, no two are worth merging, but all three
  * are; a lone match is worth storing where 1 + 4 is below 10, and only partition does it. Matches of 14 that do not quite go on, a byte apart or
- * sharing one, are stored, 10 + 38 against 40 + 10, which the pass does not see. A held match beside them changes nothing of this. */
+ * sharing one, are stored, 10 + 38 against 40 + 10, which the pass does not see. A held match beside them changes nothing of this. At F 256 a match of 10
+ * is not worth storing by rule 2; so the pass merges those of 3 and 14, 17 + 1 being below 2 * 10, then all, 1 + 29, where 11 + 15 is the least. */
 static const struct apart {
     struct accepted least, passed;
 } apart[] = {
@@ -837,6 +844,10 @@ static const struct apart {
         { .cost = 256 * 25, .entries = 3, .stored = 4 } },
       { "a lone match between held ones at EN 1, EM 10", PRICED(1, 10, 256), "H20@20 M4@8 H20@0", VERSION_LONE, "000", "H20@20 M4@8 H20@0", "",
         { .cost = 256 * 30, .entries = 3, .looks = 3 } } },
+    { { "matches of 10, 3 and 14 at F 256", PRICED(1, 10, 256), BACKWARDS, VERSION_BACKWARDS, "1110", "N15 M14@26", "01ABCDEFGHIJUVW",
+        { .cost = 256 * 26, .entries = 2, .stored = 15 } },
+      { "matches of 10, 3 and 14 at F 256", PRICED(1, 10, 256), BACKWARDS, VERSION_BACKWARDS, "1111", "N29", VERSION_BACKWARDS,
+        { .cost = 256 * 30, .entries = 1, .stored = 29, .looks = 4 } } },
 };
 
 /* Choices that are not the least, or not the first of those that cost least, at 10 disk bytes for an entry but where a price is said. Sheet C kept is
@@ -977,6 +988,180 @@ static void test_accepted(void)
         expect("commit", commits[i].what, gives(committed, &commits[i], STORE));
     for (size_t i = 0; i < sizeof commits_of_8 / sizeof *commits_of_8; i++)
         expect("commit", commits_of_8[i].what, gives(committed, &commits_of_8[i], STORE));
+}
+
+/* ---- Partition, estimate and commit: one list at rising factors (section 8.9) ---- */
+
+/* A choice that is least at some factor: its bytes, the list and the stored block that it makes, and the list's index bytes. */
+struct made {
+    const char *bits, *written, *block;
+    uint32_t index;
+};
+
+/* One list with EN and EM, its choices, and the factors, each with the choice that is least there, counted from 0, and its cost. */
+enum { RISING_CHOICES = 4, RISING_FACTORS = 12 };
+
+struct rising {
+    const char *what;
+    uint32_t en, em;
+    const char *list, *version;
+    struct made choices[RISING_CHOICES];
+    struct {
+        uint32_t f, choice;
+        uint64_t cost;
+    } factors[RISING_FACTORS];
+};
+
+/* Over STORE six times. A cost is F * index bytes + 256 * stored bytes. One choice gives way to the next where what it has more in index bytes, at F
+ * each, costs more than what that has more in stored bytes, at 256 each; where it costs as much, it stays, as it keeps the first match that the other
+ * stores.
+ *
+ * Five records: 50 index bytes and 2 stored; 40 and 14; 30 and 31; 10 and 91. 10 F against 256 * 12, 307.2; 10 F against 256 * 17, 435.2; 20 F against
+ * 256 * 60, which is a tie at 768. To store the first match and the middle one is 30 and 74, the middle and the last 30 and 79, the middle 50 and 62.
+ * A match of 10: 20 and 1; 10 and 11. 10 F against 256 * 10, a tie at 256. One of 200 at an index byte for an entry: 2 and 1; 1 and 201. F against
+ * 256 * 200, a tie at 51,200.
+ * A lone match: 30 and 0; 21 and 4; with one beside it 11 and 24, with both 1 and 44. 9 F against 256 * 4, 113.8; then 10 F against 256 * 20 and 20 F
+ * against 256 * 40, a tie of all three at 512, behind which all are stored.
+ * Matches of 5: 30 and 0; all stored 10 and 15. 20 F against 256 * 15, a tie at 192. Two of them stored are 20 and 10, 256 for 10 index bytes.
+ * A run: 30 and 10; 10 and 40. 20 F against 256 * 30, a tie at 384; two entries for it would be 40, and a tie at 256.
+ * A run of three: 10 and 0; 1 and 40. 9 F against 256 * 40, 1,137.8.
+ * A run, its second half held: 40 and 10; 30 and 25. 10 F against 256 * 15, a tie at 384.
+ * A held match between two: 50 and 10; 40 and 20; 30 and 40. 10 F against 256 * 10, a tie at 256; 10 F against 256 * 20, a tie at 512. All of it would
+ * be 10 and 44, which is no choice.
+ * A lone match between held ones: 30 and 0; 21 and 4, as above, and no more is given up.
+ * EN above EM: 21 and 10; 10 and 32. 11 F against 256 * 22, a tie at 512. A lone match is 1 and 0, stored 10 and 4, and stays.
+ * A held match alone: 30 and 10. No records: 0 and 0. */
+#define LIST_RISING "N1 M12@0 M60@50 M17@200 N1"
+#define MATCH_60 "KLMNOPQRSTUVWXYZabcdefghijklmnABCDEFGHIJKLMNOPQRSTUVWXYZabcd"
+#define VERSION_RISING "0ABCDEFGHIJKL" MATCH_60 "ABCDEFGHIJKLMNOPQ1"
+#define LIST_BETWEEN "N5 M10@0 H4@20 M20@0 N5"
+#define VERSION_BETWEEN "01234ABCDEFGHIJUVWXABCDEFGHIJKLMNOPQRST56789"
+#define VERSION_30 "01234ABCDEFGHIJKLMNOPQRSTUVWXYZabcd56789"
+static const struct rising risings[] = {
+    { "five records", 10, 10, LIST_RISING, VERSION_RISING,
+      { { "10001", LIST_RISING, "01", 50 }, { "11001", "N13 M60@50 M17@200 N1", "0ABCDEFGHIJKL1", 40 },
+        { "11011", "N13 M60@50 N18", "0ABCDEFGHIJKLABCDEFGHIJKLMNOPQ1", 30 }, { "11111", "N91", VERSION_RISING, 10 } },
+      { { 1, 0, 562 }, { 256, 0, 13312 }, { 307, 0, 15862 }, { 308, 1, 15904 }, { 384, 1, 18944 }, { 435, 1, 20984 }, { 436, 2, 21016 }, { 512, 2, 23296 },
+        { 767, 2, 30946 }, { 768, 2, 30976 }, { 769, 3, 30986 }, { 65535, 3, 678646 } } },
+    { "a match of 10", 10, 10, "N1 M10@0", "0ABCDEFGHIJ", { { "10", "N1 M10@0", "0", 20 }, { "11", "N11", "0ABCDEFGHIJ", 10 } },
+      { { 1, 0, 276 }, { 255, 0, 5356 }, { 256, 0, 5376 }, { 257, 1, 5386 }, { 65535, 1, 658166 } } },
+    { "a match of 200, EN and EM 1", 1, 1, "N1 M200@0", "0" STORE_3 STORE STORE,
+      { { "10", "N1 M200@0", "0", 2 }, { "11", "N201", "0" STORE_3 STORE STORE, 1 } },
+      { { 1, 0, 258 }, { 32767, 0, 65790 }, { 32768, 0, 65792 }, { 51199, 0, 102654 }, { 51200, 0, 102656 }, { 51201, 1, 102657 }, { 65535, 1, 116991 } } },
+    { "a lone match, EN 1 and EM 10", 1, 10, LONE, VERSION_LONE,
+      { { "000", LONE, "", 30 }, { "010", "M20@20 N4 M20@0", "IJKL", 21 }, { "111", "N44", VERSION_LONE, 1 } },
+      { { 1, 0, 30 }, { 113, 0, 3390 }, { 114, 1, 3418 }, { 256, 1, 6400 }, { 511, 1, 11755 }, { 512, 1, 11776 }, { 513, 2, 11777 }, { 65535, 2, 76799 } } },
+    { "matches of 5", 10, 10, "M5@10 M5@5 M5@0", "KLMNOFGHIJABCDE", { { "000", "M5@10 M5@5 M5@0", "", 30 }, { "111", "N15", "KLMNOFGHIJABCDE", 10 } },
+      { { 1, 0, 30 }, { 191, 0, 5730 }, { 192, 0, 5760 }, { 193, 1, 5770 }, { 65535, 1, 659190 } } },
+    { "a run", 10, 10, "N5 M15@0 M15@15 N5", VERSION_30, { { "1001", "N5 M30@0 N5", "0123456789", 30 }, { "1111", "N40", VERSION_30, 10 } },
+      { { 256, 0, 10240 }, { 383, 0, 14050 }, { 384, 0, 14080 }, { 385, 1, 14090 }, { 65535, 1, 665590 } } },
+    { "a run of three, EN 1 and EM 10", 1, 10, "M20@0 M4@20 M16@24", STORE, { { "000", "M40@0", "", 10 }, { "111", "N40", STORE, 1 } },
+      { { 1, 0, 10 }, { 1137, 0, 11370 }, { 1138, 1, 11378 }, { 65535, 1, 75775 } } },
+    { "a run, its second half held", 10, 10, "N5 M15@0 H15@15 N5", VERSION_30,
+      { { "1001", "N5 M15@0 H15@15 N5", "0123456789", 40 }, { "1101", "N20 H15@15 N5", "01234ABCDEFGHIJKLMNO56789", 30 } },
+      { { 383, 0, 17880 }, { 384, 0, 17920 }, { 385, 1, 17950 }, { 65535, 1, 1972450 } } },
+    { "a held match between two", 10, 10, LIST_BETWEEN, VERSION_BETWEEN,
+      { { "10001", LIST_BETWEEN, "0123456789", 50 }, { "11001", "N15 H4@20 M20@0 N5", "01234ABCDEFGHIJ56789", 40 },
+        { "11011", "N15 H4@20 N25", "01234ABCDEFGHIJABCDEFGHIJKLMNOPQRST56789", 30 } },
+      { { 255, 0, 15310 }, { 256, 0, 15360 }, { 257, 1, 15400 }, { 511, 1, 25560 }, { 512, 1, 25600 }, { 513, 2, 25630 }, { 65535, 2, 1976290 } } },
+    { "a lone match between held ones, EN 1 and EM 10", 1, 10, "H20@20 M4@8 H20@0", VERSION_LONE,
+      { { "000", "H20@20 M4@8 H20@0", "", 30 }, { "010", "H20@20 N4 H20@0", "IJKL", 21 } },
+      { { 113, 0, 3390 }, { 114, 1, 3418 }, { 65535, 1, 1377259 } } },
+    { "a match of 22, EN 10 and EM 1", 10, 1, "N5 M22@0 N5", "01234ABCDEFGHIJKLMNOPQRSTUV56789",
+      { { "101", "N5 M22@0 N5", "0123456789", 21 }, { "111", "N32", "01234ABCDEFGHIJKLMNOPQRSTUV56789", 10 } },
+      { { 1, 0, 2581 }, { 511, 0, 13291 }, { 512, 0, 13312 }, { 513, 1, 13322 }, { 65535, 1, 663542 } } },
+    { "a lone match, EN 10 and EM 1", 10, 1, "M4@0", "ABCD", { { "0", "M4@0", "", 1 } }, { { 1, 0, 1 }, { 65535, 0, 65535 } } },
+    { "a held match alone", 10, 10, "N5 H19@0 N5", VERSION_C, { { "101", "N5 H19@0 N5", "0123456789", 30 } }, { { 1, 0, 2590 }, { 65535, 0, 1968610 } } },
+    { "no records", 10, 10, "", "", { { "", "", "", 0 } }, { { 1, 0, 0 }, { 65535, 0, 0 } } },
+};
+
+#define STORE_6 STORE_3 STORE_3
+
+/* What is wanted of a list at its factor i, where choice c is taken. */
+static struct accepted taken_at(const struct rising *r, size_t i, size_t c, const char *what)
+{
+    const struct made *k = &r->choices[c];
+    uint8_t written[AREA];
+    const uint32_t f = r->factors[i].f, entries = (uint32_t)(list_of(k->written, written) / RECORD_BYTES), stored = (uint32_t)strlen(k->block);
+    return (struct accepted){ what, PRICED(r->en, r->em, f), r->list, r->version, k->bits, k->written, k->block,
+                              { .cost = (uint64_t)f * k->index + 256 * (uint64_t)stored, .entries = entries, .stored = stored } };
+}
+
+/* The index bytes of the list that the last call wrote. */
+static uint64_t index_written(const struct rising *r)
+{
+    uint64_t bytes = 0;
+    for (size_t i = 0; i < answer_entries(answer) && RECORD_BYTES * i < AREA; i++)
+        bytes += list_area[RECORD_BYTES * i] == KIND_NEW ? r->en : r->em;
+    return bytes;
+}
+
+/* What the calls answered at a factor, partition and estimate, and the index bytes of the lists: the one that partition wrote, and the one that the
+ * estimate's choice is committed to. */
+struct answered_at {
+    uint32_t stored[2];
+    uint64_t index[2], cost[2];
+};
+
+static struct answered_at ask(const struct rising *r, size_t i)
+{
+    const struct terms t = PRICED(r->en, r->em, r->factors[i].f);
+    const size_t n = list_of(r->list, list);
+    struct answered_at a;
+    called(partition, t, n, r->version, STORE_6);
+    a.stored[0] = answer_stored(answer), a.cost[0] = answer_cost(answer), a.index[0] = index_written(r);
+    called(estimated, t, n, r->version, STORE_6);
+    a.stored[1] = answer_stored(answer), a.cost[1] = answer_cost(answer);
+    handed_length = n / RECORD_BYTES;
+    memcpy(handed, choice, AREA);
+    called(committed, t, n, r->version, STORE_6);
+    a.index[1] = index_written(r);
+    return a;
+}
+
+/* Partition or estimate at a factor and at a greater one: no more index bytes, no fewer stored ones, neither changed alone, and no lesser cost. */
+static int rises(const struct answered_at *a, const struct answered_at *b, int of)
+{
+    return b->index[of] <= a->index[of] && b->stored[of] >= a->stored[of] && (b->index[of] == a->index[of]) == (b->stored[of] == a->stored[of])
+        && b->cost[of] >= a->cost[of];
+}
+
+/* A list at factor i, and beside each greater factor; and each other factor's choice, committed at this one, which costs no less than the least. */
+static void test_rising_at(const struct rising *r, size_t i, size_t factors)
+{
+    char what[112];
+    const uint64_t cost = r->factors[i].cost;
+    const uint32_t f = r->factors[i].f;
+    snprintf(what, sizeof what, "%s at F %u", r->what, (unsigned)f);
+    struct accepted least = taken_at(r, i, r->factors[i].choice, what);
+    least.want.cost = cost;
+    give_twice(least, STORE_6);
+    const struct answered_at here = ask(r, i);
+    const uint64_t index = r->choices[r->factors[i].choice].index;
+    expect("partition", what, here.index[0] == index && here.cost[0] == f * index + 256 * (uint64_t)here.stored[0]);
+    expect("estimate", what, here.index[1] == index && here.cost[1] == f * index + 256 * (uint64_t)here.stored[1]);
+    for (size_t j = 0; j < factors; j++) {
+        snprintf(what, sizeof what, "%s at F %u, beside F %u", r->what, (unsigned)f, (unsigned)r->factors[j].f);
+        const struct answered_at there = ask(r, j);
+        if (j > i) {
+            expect("partition", what, rises(&here, &there, 0));
+            expect("estimate", what, rises(&here, &there, 1));
+        }
+        const struct accepted other = taken_at(r, i, r->factors[j].choice, what);
+        if (j != i)
+            expect("commit", what, gives(committed, &other, STORE_6) && other.want.cost >= cost);
+    }
+}
+
+static void test_rising(void)
+{
+    for (size_t k = 0; k < sizeof risings / sizeof *risings; k++) {
+        size_t factors = 0;
+        while (factors < RISING_FACTORS && risings[k].factors[factors].f > 0)
+            factors++;
+        for (size_t i = 0; i < factors; i++)
+            test_rising_at(&risings[k], i, factors);
+    }
 }
 
 /* ---- Partition, estimate, commit and pass: refused, all with the same number and place ---- */
@@ -2820,6 +3005,7 @@ int main(void)
     test_rebuild();
     test_compare();
     test_accepted();
+    test_rising();
     test_refused(partition, "partition");
     test_refused(estimated, "estimate");
     test_refused(committed, "commit");

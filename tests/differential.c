@@ -19,10 +19,13 @@
  * pass wrote comes back from tidy, and a commitment with every match kept writes what tidy writes. Pool refuses each list as it does that list with
  * itself, the first list first, and that as partition does, but for 5; then by the records of the pooled list. What it wrote draws each byte as the first
  * list does, else as the second, and stores no more than either; it comes back from tidy, is sound for check with the version's bytes under its new
- * records, rebuilds the version, and is accepted by partition. A list with itself, and with one without a match, gives its tidy form.
+ * records, rebuilds the version, and is accepted by partition. A list with itself, and with one without a match, gives its tidy form. At two factors
+ * partition writes of one list, at the greater, no more index bytes and no fewer stored bytes, and neither changes without the other; what it gives up
+ * at the lesser it gives up at the greater, which costs no less, and each list costs at its own factor no more than the other; at one factor twice all
+ * is the same. So it is with two estimates, and with an estimate and a commitment, at either factor, of the choice of the other.
  *
  * In order: the calls; chance; the areas; fields; reports; one comparison; the laws; choices to commit; one case; valid inputs; second lists;
- * damage; loose lists; pools; the cases; the table. Not here: NULL for an empty area, which controller.h does not allow.
+ * damage; loose lists; pools; two factors; the cases; the table. Not here: NULL for an empty area, which controller.h does not allow.
  *
  *   differential [seed]
  *
@@ -37,7 +40,9 @@
  * match stored, calls were made without the marks, accepted and refused, of two loose lists two in five or more have the same origins and as many
  * have not, loose lists had new records side by side and matches to join, and an area was too short for a loose list though its tidy form fits, of
  * the pairs of sound lists to pool a quarter or more have bytes that only the first draws, as many such that only the second draws, and as many such
- * that both draw but otherwise, and each other kind of such pairs (finding_name) was there; else 1.
+ * that both draw but otherwise, and each other kind of such pairs (finding_name) was there, of the pairs of factors a twentieth or more are of each
+ * sort (sort_name), ties with the factor before and behind them among these, a quarter or more have another list, as many one list, and a tenth or more
+ * are neighbours with another list, as many have another list that would cost as much at the lesser; else 1.
  */
 #define _DEFAULT_SOURCE
 #include <inttypes.h>
@@ -2463,12 +2468,268 @@ static void try_pool(const struct input *in)
     try_pair(&both);
 }
 
+/* ---- Two factors: one list at both (section 8.9) ---- */
+
+/* Two factors, the lesser first: any two; neighbours; one, twice; the edges; and one at which two lists cost the same and none less, with the factor
+ * before it, or with the one behind it. */
+enum { ANY_TWO, NEIGHBOURS, ONE_TWICE, EDGES, BEFORE_TIE, BEHIND_TIE, SORTS };
+static const char *const sort_name[SORTS] = {
+    "any two", "neighbours", "one twice", "1 and 65,535", "a tie and the one before it", "a tie and the one behind it",
+};
+
+enum { LESSER, GREATER, BOTH };
+
+struct two {
+    uint32_t f[BOTH];
+    int sort;
+};
+
+/* The pairs of factors, by their sort; of them those with another list, and with one list, neighbours with another list, and such as have another list
+ * that would cost as much at the lesser. Of the commitments of an estimate's choice those at the other factor, and those at its own. */
+static uint64_t twos[SORTS], turned, not_turned, turned_between, ties_decided, commitments[2];
+
+/* The index bytes and the stored bytes of a list. */
+struct sums {
+    uint64_t index, stored;
+};
+
+/* Those of the least list at a factor, as the reference has it. */
+static struct sums sums_at(const struct input *in, uint32_t f)
+{
+    uint8_t answer[ANSWER_BYTES];
+    ref_estimate(in->en, in->em, f, in->list, in->list_len, in->version, in->version_len, in->store, in->store_len, law_choice, RECORDS_MOST, answer,
+                 sizeof answer);
+    const uint64_t stored = answer_stored(answer);
+    return (struct sums){ (answer_cost(answer) - DISK_BYTE * stored) / f, stored };
+}
+
+/* A factor behind which another list is least; there, where it is a tie, or a fraction behind it both cost the same. 0 where there is none. */
+struct turn {
+    uint32_t f;
+    int is_tie;
+};
+
+/* Two lists, at first those of the least factor and of the greatest, cost the same at one factor. Where a third costs less there, it takes the place of
+ * one of them. */
+static struct turn find_turn(const struct input *in)
+{
+    struct sums a = sums_at(in, 1), b = sums_at(in, F_MOST);
+    while (a.index > b.index) {
+        const uint64_t bytes = DISK_BYTE * (b.stored - a.stored), index = a.index - b.index;
+        const uint32_t f = (uint32_t)(bytes / index);
+        const struct sums here = sums_at(in, f);
+        if (here.index >= a.index || here.index <= b.index)
+            return (struct turn){ f, bytes % index == 0 };
+        *(one_in(2) ? &a : &b) = here;
+    }
+    return (struct turn){ 0, 0 };
+}
+
+/* A factor such as prices have, or any. */
+static uint32_t draw_factor(const struct input *in)
+{
+    struct input priced = *in;
+    draw_price(&priced);
+    return one_in(2) ? priced.f : one_in(2) ? in->f : 1 + below(F_MOST);
+}
+
+/* Half of the cases look for a tie; where there is none, the factors are any two. Half of the neighbours are such as the list turns between, if it
+ * does. */
+static struct two draw_two(const struct input *in)
+{
+    const int sort = one_in(2) ? (int)below(BEFORE_TIE) : one_in(2) ? BEFORE_TIE : BEHIND_TIE;
+    const struct turn turn = sort == NEIGHBOURS || sort >= BEFORE_TIE ? find_turn(in) : (struct turn){ 0, 0 };
+    const uint32_t f = draw_factor(in), g = draw_factor(in), near = lesser(turn.f > 0 && one_in(2) ? turn.f : f, F_MOST - 1);
+    if (sort == NEIGHBOURS)
+        return (struct two){ { near, near + 1 }, sort };
+    if (sort == ONE_TWICE)
+        return (struct two){ { f, f }, sort };
+    if (sort == EDGES)
+        return (struct two){ { 1, F_MOST }, sort };
+    if (sort == BEFORE_TIE && turn.is_tie && turn.f > 1)
+        return (struct two){ { turn.f - 1, turn.f }, sort };
+    if (sort == BEHIND_TIE && turn.is_tie && turn.f < F_MOST)
+        return (struct two){ { turn.f, turn.f + 1 }, sort };
+    return (struct two){ { lesser(f, g), f < g ? g : f }, ANY_TWO };
+}
+
+/* What a call came to at a factor: its answer, its choice, the list and the stored block that it wrote, of estimate those that its choice makes, and
+ * the list's index bytes. */
+struct outcome {
+    uint32_t f;
+    struct given answer;
+    uint64_t index;
+    uint8_t *choice, *list, *block;
+};
+
+static struct outcome partitions[BOTH], estimates[BOTH], commitment;
+
+static void make_outcomes(void)
+{
+    struct outcome *const all[] = { &partitions[LESSER], &partitions[GREATER], &estimates[LESSER], &estimates[GREATER], &commitment };
+    for (size_t i = 0; i < sizeof all / sizeof all[0]; i++) {
+        all[i]->choice = room_for(RECORDS_MOST);
+        all[i]->list = room_for(areas[LIST].most);
+        all[i]->block = room_for(VERSION_MOST);
+    }
+}
+
+/* The index bytes of a list (clause 2.3), by its records. */
+static uint64_t index_bytes(const struct input *in, const uint8_t *list, size_t entries)
+{
+    uint64_t bytes = 0;
+    for (size_t i = 0; i < entries; i++)
+        bytes += list[RECORD_BYTES * i] == KIND_NEW ? in->en : in->em;
+    return bytes;
+}
+
+/* Takes what the library's last call came to; a call that is not accepted at one factor, as it is at another, is at fault. */
+static void take_outcome(struct outcome *to, int call, const struct input *in)
+{
+    const uint8_t *choice = call == COMMIT ? in->handed : area(CHOICE, LIBRARY), *list = area(LIST, LIBRARY), *block = area(BLOCK, LIBRARY);
+    size_t entries = given[call].entries, stored = given[call].stored;
+    if (given[call].number != ACCEPTED)
+        differ(call, "refused at another factor", in);
+    if (call == ESTIMATE) {
+        entries = list_of_choice(in, choice, &stored);
+        list = law_list, block = law_block;
+    }
+    if (entries != given[call].entries || stored != given[call].stored)
+        differ(call, "entries or stored bytes are not those of the list that the choice makes", in);
+    to->f = in->f;
+    to->answer = given[call];
+    to->index = index_bytes(in, list, entries);
+    memcpy(to->choice, choice, records(in));
+    memcpy(to->list, list, RECORD_BYTES * entries);
+    memcpy(to->block, block, stored);
+}
+
+/* Ends the test at the first difference between two factors. */
+static _Noreturn void differ_between(int call, const char *what, const struct outcome *a, const struct outcome *b, const struct input *in)
+{
+    char both[160];
+    snprintf(both, sizeof both, "%s, at F %" PRIu32 " and %" PRIu32, what, a->f, b->f);
+    differ(call, both, in);
+}
+
+static int same_list(const struct outcome *a, const struct outcome *b)
+{
+    return a->answer.entries == b->answer.entries && memcmp(a->list, b->list, RECORD_BYTES * a->answer.entries) == 0;
+}
+
+static int same_block(const struct outcome *a, const struct outcome *b)
+{
+    return a->answer.stored == b->answer.stored && memcmp(a->block, b->block, a->answer.stored) == 0;
+}
+
+/* What a list costs at a factor (clause 2.5), by the records that were written. */
+static uint64_t cost_at(uint32_t f, const struct outcome *a)
+{
+    return f * a->index + DISK_BYTE * (uint64_t)a->answer.stored;
+}
+
+/* The greater factor's list has no more index bytes and no fewer stored bytes, and neither changes without the other. */
+static void law_of_dearer_index(int call, const struct outcome *a, const struct outcome *b, const struct input *in)
+{
+    if (b->index > a->index)
+        differ_between(call, "more index bytes", a, b, in);
+    if (b->answer.stored < a->answer.stored)
+        differ_between(call, "fewer stored bytes", a, b, in);
+    if ((b->index == a->index) != (b->answer.stored == a->answer.stored))
+        differ_between(call, "other index bytes with as many stored bytes, or as many with other", a, b, in);
+}
+
+/* Each answer's cost is what its records and stored bytes cost, at the greater factor no less. Another list costs no less: that of the greater factor
+ * at the lesser, where it may cost as much, and that of the lesser at the greater, where it costs more. */
+static void law_of_two_costs(int call, const struct outcome *a, const struct outcome *b, const struct input *in)
+{
+    if (a->answer.cost != cost_at(a->f, a) || b->answer.cost != cost_at(b->f, b))
+        differ_between(call, "another cost than that of the records and the stored bytes", a, b, in);
+    if (b->answer.cost < a->answer.cost)
+        differ_between(call, "a lesser cost", a, b, in);
+    if (cost_at(a->f, b) < a->answer.cost || cost_at(b->f, a) < b->answer.cost)
+        differ_between(call, "a cost above that of the other factor's list", a, b, in);
+    if (!same_list(a, b) && cost_at(b->f, a) == b->answer.cost)
+        differ_between(call, "another list at the greater factor, where that of the lesser costs as much", a, b, in);
+}
+
+/* A match that is given up at the lesser factor is given up at the greater; at one factor twice all is the same. */
+static void law_of_two_choices(int call, const struct outcome *a, const struct outcome *b, const struct input *in)
+{
+    for (size_t i = 0; i < records(in); i++)
+        if (a->choice[i] > b->choice[i])
+            differ_between(call, "a match given up, and then kept", a, b, in);
+    const int one_choice = memcmp(a->choice, b->choice, records(in)) == 0;
+    if (a->f == b->f && !(one_choice && same_answers(&a->answer, &b->answer) && same_list(a, b) && same_block(a, b)))
+        differ_between(call, "another answer, choice, list or stored block", a, b, in);
+}
+
+static void laws_of_two(int call, const struct outcome *a, const struct outcome *b, const struct input *in)
+{
+    law_of_dearer_index(call, a, b, in);
+    law_of_two_costs(call, a, b, in);
+    law_of_two_choices(call, a, b, in);
+}
+
+/* The choice of one of the estimates, committed at its factor or at the other: the list that this estimate came to, at its cost there, which is no less
+ * than that of the estimate there. So beside the other estimate it has no more index bytes, or no fewer. */
+static void try_commitment(const struct input *in, int of, int at)
+{
+    struct input here = *in;
+    const struct outcome *own = &estimates[of];
+    here.f = estimates[at].f;
+    here.handed_len = records(in);
+    memcpy(here.handed, own->choice, here.handed_len);
+    try_call(COMMIT, &here);
+    take_outcome(&commitment, COMMIT, &here);
+    if (commitment.index != own->index || !same_list(&commitment, own) || !same_block(&commitment, own))
+        differ_between(COMMIT, "another list than the one that the estimate came to", own, &commitment, &here);
+    if (commitment.answer.cost != cost_at(here.f, own) || commitment.answer.cost < estimates[at].answer.cost)
+        differ_between(COMMIT, "another cost than that of the estimate's list, or a cost below the estimate's", own, &commitment, &here);
+    law_of_dearer_index(COMMIT, of == LESSER ? &commitment : &estimates[LESSER], of == LESSER ? &estimates[GREATER] : &commitment, &here);
+    commitments[of == at]++;
+}
+
+static void tally_two(const struct two *two)
+{
+    const struct outcome *a = &partitions[LESSER], *b = &partitions[GREATER];
+    const int turns = !same_list(a, b);
+    twos[two->sort]++;
+    *(turns ? &turned : &not_turned) += 1;
+    turned_between += turns && b->f - a->f == 1;
+    ties_decided += turns && cost_at(a->f, b) == a->answer.cost;
+}
+
+/* Partition and estimate of a list that partition accepts, at two factors, and a commitment of each estimate's choice. */
+static void try_factors(const struct input *in)
+{
+    const struct two two = draw_two(in);
+    struct input here = *in;
+    for (int i = LESSER; i < BOTH; i++) {
+        here.f = two.f[i];
+        try_call(PARTITION, &here);
+        take_outcome(&partitions[i], PARTITION, &here);
+        keep_partition(&here);
+        try_call(ESTIMATE, &here);
+        law_of_estimate(&here);
+        take_outcome(&estimates[i], ESTIMATE, &here);
+    }
+    laws_of_two(PARTITION, &partitions[LESSER], &partitions[GREATER], &here);
+    laws_of_two(ESTIMATE, &estimates[LESSER], &estimates[GREATER], &here);
+    try_commitment(in, LESSER, (int)below(BOTH));
+    try_commitment(in, GREATER, (int)below(BOTH));
+    tally_two(&two);
+}
+
 /* ---- The cases ---- */
 
-/* One input for all calls; in one case of four its list in pieces, and in one of four a pair to pool. */
+/* One input for all calls; in one case of four its list in pieces, and in one of four a pair to pool; half of the lists that partition accepts
+ * are tried at two factors. */
 static void try_case(const struct input *in)
 {
     try_input(in);
+    if (given[PARTITION].number == ACCEPTED && one_in(2))
+        try_factors(in);
     if (one_in(4))
         try_loose(in);
     if (one_in(4))
@@ -2854,6 +3115,16 @@ static void print_pools(void)
     printf("\n");
 }
 
+static void print_factors(void)
+{
+    printf("pairs of factors:");
+    for (int sort = 0; sort < SORTS; sort++)
+        printf("%s %s %" PRIu64, sort == 0 ? "" : ",", sort_name[sort], twos[sort]);
+    printf("; with another list %" PRIu64 ", of them neighbours %" PRIu64 ", such as would cost as much at the lesser %" PRIu64 "; with one list %"
+           PRIu64 "; commitments of an estimate's choice at its factor %" PRIu64 ", at the other %" PRIu64 "\n", turned, turned_between, ties_decided,
+           not_turned, commitments[1], commitments[0]);
+}
+
 static void print_choices(void)
 {
     printf("choices handed to commit, and judged or not:");
@@ -2891,6 +3162,7 @@ static void print_table(void)
            " fits %" PRIu64 "; pairs with the same origins %" PRIu64 ", with others %" PRIu64 "\n", side_by_side, unjoined, short_for_loose,
            same_origins, other_origins);
     print_pools();
+    print_factors();
     print_choices();
     print_differed("matches", differed);
     print_differed("stored stretches", differed_stored);
@@ -3031,6 +3303,25 @@ static int missing_pools(void)
     return count;
 }
 
+/* How many sorts of pairs of factors are less than a twentieth of all, or missing, and what they come to: of pairs with another list, and with one, a
+ * quarter of all is wanted, of neighbours with another list, and of lists that would cost as much, a tenth. */
+static int missing_factors(void)
+{
+    const uint64_t all = turned + not_turned;
+    int count = too_few(turned, all / 4, "not a quarter of the pairs of factors has another list")
+        + too_few(not_turned, all / 4, "not a quarter of the pairs of factors has one list")
+        + too_few(turned_between, all / 10, "not a tenth of the pairs of factors are neighbours with another list")
+        + too_few(ties_decided, all / 10, "not a tenth of the pairs of factors has another list that would cost as much at the lesser")
+        + too_few(commitments[0], 1, "no estimate's choice was committed at the other factor")
+        + too_few(commitments[1], 1, "no estimate's choice was committed at its own factor");
+    for (int sort = 0; sort < SORTS; sort++)
+        if (twos[sort] == 0 || 20 * twos[sort] < all) {
+            printf("differential: too few pairs of factors, or none: %s\n", sort_name[sort]);
+            count++;
+        }
+    return count;
+}
+
 /* How many pairs of places within a word had no match, or no stored stretch, that differs. */
 static int missing_places(void)
 {
@@ -3069,6 +3360,7 @@ int main(int argc, char **argv)
     signal(SIGILL, crashed);
     signal(SIGFPE, crashed);
     make_room();
+    make_outcomes();
     short_lists();
     small_cases();
     stretch_cases();
@@ -3092,7 +3384,7 @@ int main(int argc, char **argv)
         return 1;
     }
     if (missing_prices() + missing_columns() + missing_places() + uneven_counts() + missing_pairs() + missing_marks() + missing_choices()
-        + missing_loose() + missing_pools() > 0)
+        + missing_loose() + missing_pools() + missing_factors() > 0)
         return 1;
     printf("differential: %" PRIu64 " calls compared, 0 differences\n", calls);
     return 0;

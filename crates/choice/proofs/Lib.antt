@@ -5,3 +5,4 @@ pub mod Lists
 pub mod Scaling
 pub mod Holding
 pub mod Pricing
+pub mod Nesting

@@ -12,3 +12,4 @@ pub mod SplitHolds
 pub mod TidyingHolds
 pub mod PoolingHolds
 pub mod ComparingHolds
+pub mod FactorHolds

@@ -121,6 +121,13 @@ module _ {p : Price} {list v st : List ℕ} {x : Call} (k : Commits p list v st 
 
 -- ---- the two calls in turn
 
+-- the least choice has as many bytes as there are records; so many bytes of an area that begins with it are that choice
+pub length-least : (p : Price) (list : List ℕ) → length (bitBytes (leastOf p list)) ≡ length list / 12
+length-least p list = length-bits (leastOf p list) ∙ length-choice (recordsOf list) (leastOf p list) (least-fits (ratesOf p) (recordsOf list)) ∙ length-recordsOf list
+
+pub least-handed-on : (p : Price) (list choice : List ℕ) {after : List ℕ} → after ≡ over (bitBytes (leastOf p list)) choice → take (length list / 12) after ≡ bitBytes (leastOf p list)
+least-handed-on p list choice chosen = ap (take (length list / 12)) chosen ∙ front (length list / 12) (bitBytes (leastOf p list)) choice (sym (length-least p list))
+
 module _ (p : Price) (list v st : List ℕ) (before : Areas) (r : TwoAnswers) (after : Areas) (h : room list v before ≡ true) (t : InTurn p list v st before r after) where
   alike : estimateRuling p list v st (before .choice) ≡ partitionRuling p list v st before
   alike = estimate-alike p list v st before h
@@ -136,8 +143,7 @@ module _ (p : Price) (list v st : List ℕ) (before : Areas) (r : TwoAnswers) (a
   turn-accepted : partitionRuling p list v st before ≡ Fine → Partitioned p list v st before (r .committed) after
   turn-accepted e =
       let chosen : after .choice ≡ over (bitBytes (leastOf p list)) (before .choice) = rw (alike ∙ e) at (t .first .area-after) in
-      let n : length list / 12 ≡ length (bitBytes (leastOf p list)) = sym (length-bits (leastOf p list) ∙ length-choice (recordsOf list) (leastOf p list) is-choice ∙ length-recordsOf list) in
-      let handed-on : take (length list / 12) (after .choice) ≡ bitBytes (leastOf p list) = ap (take (length list / 12)) chosen ∙ front (length list / 12) (bitBytes (leastOf p list)) (before .choice) n in
+      let handed-on = least-handed-on p list (before .choice) chosen in
       let made = subst (λ (c : List ℕ). Committed p list v st c (before .list) (before .block) (r .committed) (after .list) (after .block)) handed-on (t .second (rw (t .first .answered, alike ∙ e) tt)) in
       let fine = then-of-fine (admitRuling p list v st (length list / 12) (length (before .list)) (length (before .block))) (choiceRuling list (bitBytes (leastOf p list))) (commit-admits p list v st before h e) (fine-of-choice list (leastOf p list) is-choice) in
       let w = writes made fine (stands list (bitBytes (leastOf p list)) (leastOf p list) is-choice refl) in

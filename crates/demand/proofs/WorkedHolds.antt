@@ -7,4 +7,4 @@ use Rattle.demand.specs.Worked.{TableHolds}
 
 pub table-holds : TableHolds
 unfolding run pass endItems passOutcomes choiceOf
-table-holds = (refl, refl)
+table-holds = (refl, refl, refl, refl)

@@ -10,3 +10,4 @@ pub mod Split
 pub mod Tidying
 pub mod Pooling
 pub mod Comparing
+pub mod Factor

@@ -1,5 +1,6 @@
 // The answers of calls that are made one after the other: for the laws of section 8.1, whose statement is `specs/Demand`, by the crate `demonstrate`;
-// for partition in two steps, `specs/Split`, by the crate `split`; and for tidying twice, `specs/Tidying`, by the crate `tidy_twice`.
+// for partition in two steps, `specs/Split`, by the crate `split`; for tidying twice, `specs/Tidying`, by the crate `tidy_twice`; and for partition at two
+// factors, `specs/Factor`, by the crate `two_factors`.
 use format::Answer;
 
 // What the four calls answered: partition, rebuild of what it wrote, partition of what it wrote, and pass.
@@ -20,4 +21,10 @@ pub struct TwoAnswers {
 pub struct TwiceTidied {
     pub once: Answer,
     pub again: Answer,
+}
+
+// What partition answered at a factor, and at another.
+pub struct AtTwoFactors {
+    pub first: Answer,
+    pub second: Answer,
 }

@@ -23,6 +23,7 @@ pub record InRange (k : Price) : Type 0 where
   pub en-most : k .en ≤ 255
   pub em-most : k .em ≤ 255
   pub f-most : k .f ≤ 65535
+  pub f-least : 1 ≤ k .f
 
 pub range-of-fits : (k : Price) → priceFits k ≡ true → InRange k
 range-of-fits k h =
@@ -31,7 +32,7 @@ range-of-fits k h =
     let c = both-of-and (leb 1 (k .en) && leb (k .en) 255 && leb 1 (k .em)) (leb (k .em) 255) (b .0) in
     let d = both-of-and (leb 1 (k .en) && leb (k .en) 255) (leb 1 (k .em)) (c .0) in
     let e = both-of-and (leb 1 (k .en)) (leb (k .en) 255) (d .0) in
-    record { en-most = leb-true (k .en) 255 (e .1); em-most = leb-true (k .em) 255 (c .1); f-most = leb-true (k .f) 65535 (a .1) }
+    record { en-most = leb-true (k .en) 255 (e .1); em-most = leb-true (k .em) 255 (c .1); f-most = leb-true (k .f) 65535 (a .1); f-least = leb-true 1 (k .f) (b .1) }
 
 pub rates-fit : (k : Price) → priceFits k ≡ true → RatesFit (ratesOf k)
 rates-fit k h =

@@ -15,6 +15,10 @@ use Rattle.price.specs.declared.Cost.{Cost}
 use Rattle.price.specs.declared.Price.{Price}
 use Rattle.price.specs.declared.Rates.{Rates}
 
+-- EN, EM and F
+abbrev pub priceAt : ℕ → ℕ → ℕ → Price
+priceAt en em f = record { en = en; em = em; f = f }
+
 -- EN and EM are 1 to 255, F is 1 to 65,535
 abbrev pub priceFits : Price → Bool
 priceFits k = leb 1 (k .en) && leb (k .en) 255 && leb 1 (k .em) && leb (k .em) 255 && leb 1 (k .f) && leb (k .f) 65535
