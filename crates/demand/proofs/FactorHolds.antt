@@ -11,14 +11,12 @@ use lib.ListN.{length, getD, List·getD-append}
 use borrow.Author.Tests.{leb-true, leb-false}
 use Rattle.format.specs.declared.Record.{Record}
 use Rattle.format.specs.declared.Answer.{Answer}
-use Rattle.format.specs.declared.Answer.the-variants.{Accepted}
 use Rattle.format.specs.declared.Ruling.{Ruling}
 use Rattle.format.specs.declared.Ruling.the-variants.{Fine}
 use Rattle.format.specs.Refusal.{figuresIn}
 use Rattle.format.specs.Record.{recordsOf}
 use Rattle.format.specs.Meaning.{stored}
 use Rattle.format.proofs.Encoding.{records-encode}
-use Rattle.format.proofs.Rulings.{fine-of-accepts}
 use Rattle.price.specs.declared.Price.{Price}
 use Rattle.price.specs.declared.Rates.{Rates}
 use Rattle.price.specs.Price.{priceAt, ratesOf, indexBytes, cost}
@@ -28,10 +26,10 @@ use Rattle.choice.proofs.Least.{least-is-least, least-fits}
 use Rattle.choice.proofs.Nesting.{index-fewer, stored-stays}
 use Rattle.area.specs.Area.{over, Areas}
 use Rattle.admit.proofs.Admitting.{sound-of-fine}
-use Rattle.writer.specs.Decide.{figures, Decided}
+use Rattle.writer.specs.Decide.{Decided}
 use Rattle.writer.proofs.Deciding.{decided-fine, decided-answer, decided-areas, list-over}
 use Rattle.call_partition.specs.Partition.{Partitioned}
-use Rattle.estimate.specs.Estimate.{estimateRuling}
+use Rattle.estimate.proofs.Estimating.{estimated-fine, estimated-answer, estimated-area}
 use Rattle.commit.proofs.Choosing.{stands}
 use Rattle.demand.specs.Demand.{Call}
 use Rattle.demand.specs.Factor.{PartitionAt, Estimate, EstimateAt, CommitAt, Taken, took, foresees, Outcome, outcome, outlook, Traded, Dearer, FactorLaws, DearerIndex}
@@ -143,11 +141,10 @@ partition-least {p} {list} {v} {st} {x} k =
 
 estimate-least : {p : Price} {list v st : List ℕ} {x : Estimate} → EstimateAt p list v st x → LeastAt p list (outlook p list x)
 estimate-least {p} {list} {v} {st} {x} k =
-    let fine = fine-of-accepts (estimateRuling p list v st (x .before)) (figures (ratesOf p) (leastList p (recordsOf list)) 0) (rw (k .made .answered) at (k .accepted)) in
-    let told : x .answer ≡ Accepted (figures (ratesOf p) (leastList p (recordsOf list)) 0) = rw fine at (k .made .answered) in
-    let chosen : x .after ≡ over (bitBytes (leastOf p list)) (x .before) = rw fine at (k .made .area-after) in
+    let told = estimated-answer (k .made) (k .accepted) in
+    let chosen = estimated-area (k .made) (k .accepted) in
     record {
-      factor-above = range-of-fits p (sound-of-fine p list v st (length (x .before)) (length list) (length v) fine .fits .price-fits) .f-least;
+      factor-above = range-of-fits p (sound-of-fine p list v st (length (x .before)) (length list) (length v) (estimated-fine (k .made) (k .accepted)) .fits .price-fits) .f-least;
       taken-is =
           ap₂ (λ (l : List Record) (n : ℕ). record { index = indexBytes p l; stored = n }) (list-over list (x .before) (x .after) (leastOf p list) (least-fits (ratesOf p) (recordsOf list)) chosen)
           (ap (λ (a : Answer). figuresIn a .stored) told);

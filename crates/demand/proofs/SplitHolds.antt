@@ -18,7 +18,7 @@ use Rattle.format.specs.declared.Answer.the-variants.{Accepted, Refused}
 use Rattle.format.specs.Refusal.{Accepts, answer, unlessRefused, figuresIn, _then_}
 use Rattle.format.specs.Record.{recordsOf, encode}
 use Rattle.format.specs.Meaning.{blockOf}
-use Rattle.format.proofs.Rulings.{then-fine, fine-of-then, then-of-fine, fine-of-accepts, fine-of-accepted}
+use Rattle.format.proofs.Rulings.{then-fine, fine-of-then, then-of-fine, fine-of-accepts}
 use Rattle.format.proofs.Rows.{length-recordsOf}
 use Rattle.price.specs.declared.Price.{Price}
 use Rattle.price.specs.Price.{ratesOf}
@@ -35,6 +35,7 @@ use Rattle.writer.specs.Decide.{figures, decidedAnswer, decidedAreas, Decided}
 use Rattle.writer.proofs.Deciding.{decided-answer}
 use Rattle.call_partition.specs.Partition.{Partitioned}
 use Rattle.estimate.specs.Estimate.{estimateRuling, Estimated}
+use Rattle.estimate.proofs.Estimating.{estimated-fine, estimated-answer}
 use Rattle.commit.specs.Commit.{choiceRuling, commitRuling, Committed}
 use Rattle.commit.proofs.Choosing.{Stands, stands, choice-of-fine, fine-of-choice}
 use Rattle.demand.specs.declared.TwoAnswers.{TwoAnswers}
@@ -197,9 +198,7 @@ alike-answers p list v st x r after h made e =
 costs-no-less : (p : Price) (list v st choice : List ℕ) (r : Answer) (after : List ℕ) (x : Call) → Estimated p list v st choice r after → Accepts r
     → Commits p list v st x → Accepts (x .answer) → figuresIn r .cost ≤ figuresIn (x .answer) .cost
 costs-no-less p list v st choice r after x e a k b =
-    let fine = fine-of-accepts (estimateRuling p list v st choice) (figures (ratesOf p) (listOf (recordsOf list) (leastOf p list)) 0) (rw (e .answered) at a) in
-    let told : r ≡ Accepted (figures (ratesOf p) (listOf (recordsOf list) (leastOf p list)) 0) = rw fine at (e .answered) in
-    rw (told, answer-told k b) (least-is-least (ratesOf p) (recordsOf list) .cheapest (given k b .0) (given k b .1 .is-choice))
+    rw (estimated-answer e a, answer-told k b) (least-is-least (ratesOf p) (recordsOf list) .cheapest (given k b .0) (given k b .1 .is-choice))
 
 joined : (p : Price) (list v st : List ℕ) (x : Call) → x .before .choice ≡ bitBytes (keepAll (recordsOf list)) → Commits p list v st x
     → GivesJoined (admitRuling p list v st (length list / 12) (length (x .before .list)) (length (x .before .block))) p list v x
@@ -250,8 +249,7 @@ module _ (p : Price) (list v st : List ℕ) (before : Areas) where
     -- there is a byte of choice for each record
     pub choice-there : {f : Figures} → r ≡ Accepted f → length list / 12 ≤ length (before .choice)
     choice-there {f} q =
-        let fine = fine-of-accepted (estimateRuling p list v st (before .choice)) (figures (ratesOf p) (listOf (recordsOf list) (leastOf p list)) 0) f (sym (first .answered) ∙ q) in
-        sound-of-fine p list v st (length (before .choice)) (length list) (length v) fine .in-choice
+        sound-of-fine p list v st (length (before .choice)) (length list) (length v) (estimated-fine first (rw q tt)) .in-choice
 
     -- as many bytes as there are records are handed on
     pub estimate-committed : {m : ℕ} {f : Figures} {s : Answer} {area block : List ℕ} → r ≡ Accepted f → m ≡ length list / 12

@@ -1,4 +1,4 @@
--- The ways out of an estimate: refused, and with the least choice in its area and the figures of its list.
+-- The ways out of an estimate: refused, and with the least choice in its area and the figures of its list. And what an accepted one shows.
 -- Assumes nothing.
 use Prim.Native.Nat.{ℕ}
 use mathlib.Core.Path.{_≡_}
@@ -7,13 +7,17 @@ use Rattle.format.specs.declared.Refusal.{Refusal}
 use Rattle.format.specs.declared.Ruling.the-variants.{Fine, Stop}
 use Rattle.format.specs.declared.Answer.{Answer}
 use Rattle.format.specs.declared.Answer.the-variants.{Accepted, Refused}
+use Rattle.format.specs.Refusal.{Accepts}
 use Rattle.format.specs.Record.{recordsOf}
+use Rattle.format.proofs.Rulings.{fine-of-accepts}
 use Rattle.price.specs.declared.Price.{Price}
 use Rattle.price.specs.Price.{ratesOf}
-use Rattle.choice.specs.Choice.{listOf, leastOf}
+use Rattle.area.specs.Area.{over}
+use Rattle.choice.specs.Choice.{bitBytes, listOf, leastOf}
 use Rattle.choice.proofs.Least.{least-fits}
 use Rattle.sweep.specs.Sweep.{LeastIn}
 use Rattle.writer.specs.Write.{listIn}
+use Rattle.writer.specs.Decide.{figures}
 use Rattle.writer.proofs.Deciding.{list-over}
 use Rattle.estimate.specs.declared.Counts.{Counts}
 use Rattle.estimate.specs.Count.{CountsOf}
@@ -33,3 +37,14 @@ module _ (price : Price) (list v st choice : List ℕ) where
   pub estimate-made : {r : Answer} {after : List ℕ} → (r ≡ estimateAnswer price list v st choice) × (after ≡ estimateArea price list v st choice)
       → Estimated price list v st choice r after
   estimate-made h = record { answered = h .0; area-after = h .1 }
+
+-- what an accepted call shows
+module _ {price : Price} {list v st choice : List ℕ} {r : Answer} {after : List ℕ} (made : Estimated price list v st choice r after) (accepted : Accepts r) where
+  pub estimated-fine : estimateRuling price list v st choice ≡ Fine
+  estimated-fine = fine-of-accepts (estimateRuling price list v st choice) (figures (ratesOf price) (listOf (recordsOf list) (leastOf price list)) 0) (rw (made .answered) at accepted)
+
+  pub estimated-answer : r ≡ Accepted (figures (ratesOf price) (listOf (recordsOf list) (leastOf price list)) 0)
+  estimated-answer = rw estimated-fine at (made .answered)
+
+  pub estimated-area : after ≡ over (bitBytes (leastOf price list)) choice
+  estimated-area = rw estimated-fine at (made .area-after)
