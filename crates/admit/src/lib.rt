@@ -1,6 +1,8 @@
 // The checks that partition, pass, estimate and commit make of their inputs and areas, in their order.
 //
 // Three parts, each a function: price and lengths; the rooms; the list beside version and store. Pool makes the last part of each of its two lists.
+#![tactic(auto)]
+
 ghost use Rattle.std.specs.Prelude.{◌≡◌};
 ghost use Rattle.format.specs.Record.{records_of};
 ghost use Rattle.walk.specs.Walked.{Lengths, walked};

@@ -1,4 +1,6 @@
 // The answer area of a C call: the numbers of an answer, written over its first 32 bytes.
+#![tactic(auto)]
+
 ghost use Rattle.std.specs.Prelude.{◌≡◌, ◌+◌, ◌≤◌, length};
 ghost use Rattle.format.specs.Record.{word};
 ghost use Rattle.area.specs.Area.{pasted};
@@ -7,7 +9,7 @@ ghost use Rattle.answer.specs.Layout.{told_of, given};
 use format::{Answer, Figures};
 
 // The numbers of an answer, in the order of the answer area.
-#[derive(Drop)]
+#[derive(Clone, Copy)]
 pub struct Told {
     pub number: u32,
     pub place: u32,

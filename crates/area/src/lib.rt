@@ -2,6 +2,8 @@
 //
 // 8 to 1024 bytes are copied by blocks of 8 to 64, for speed: the compiled loop over single bytes ends in steps of other sizes,
 // and a processor cannot foresee how many of each there will be. Below 64 bytes there are two blocks, the first and the last bytes.
+#![tactic(auto)]
+
 ghost use Rattle.std.specs.Prelude.{◌≡◌, ◌+◌, ◌≤◌, length};
 ghost use Rattle.area.specs.Area.{pasted, repeated};
 

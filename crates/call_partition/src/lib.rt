@@ -1,4 +1,6 @@
 // The call partition: of all choices for a list, the one whose list costs least, with its list and its stored block.
+#![tactic(auto)]
+
 ghost use Rattle.std.specs.Prelude.{◌≡◌};
 ghost use Rattle.area.specs.Area.{areas};
 ghost use Rattle.call_partition.specs.Partition.{partition_answer, partition_areas};

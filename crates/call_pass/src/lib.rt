@@ -1,4 +1,6 @@
 // The call pass: the published linear method, with the list and the stored block of the choice that it leaves.
+#![tactic(auto)]
+
 ghost use Rattle.std.specs.Prelude.{◌≡◌, ◌≤◌};
 ghost use Rattle.format.specs.Refusal.{figures_in};
 ghost use Rattle.area.specs.Area.{areas};

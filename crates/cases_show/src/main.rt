@@ -1,5 +1,7 @@
 // The cases of show, which has no C call: prints the part that a record stands for, in brackets. The store is the letters A to T; what is
 // expected is worked out by hand from section 4.5 of docs/SPECIFICATION.md.
+#![tactic(auto)]
+
 const STORE: [u8; 20] = *b"ABCDEFGHIJKLMNOPQRST";
 
 // N5 M5@15 N3: with the stored block abcdefgh it is abcdePQRSTfgh.

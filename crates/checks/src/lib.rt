@@ -1,6 +1,8 @@
 // The checks of a list by itself: check 3, of its length, and check 4, of each row.
 //
 // Not here: what a record must be beside its neighbours, the version and the store (crate `walk`).
+#![tactic(auto)]
+
 ghost use Rattle.std.specs.Prelude.{◌≡◌};
 ghost use Rattle.format.specs.Record.{well_formed, list_fits};
 

@@ -1,4 +1,6 @@
 // What a choice makes of a record, and what a record adds to the cost of a list.
+#![tactic(auto)]
+
 ghost use Rattle.std.specs.Prelude.{◌≡◌, ◌≤◌};
 ghost use Rattle.price.specs.Price.{RatesFit, entry_most, storing_most};
 ghost use Rattle.choice.specs.Choice.{bit_of, chosen_record};

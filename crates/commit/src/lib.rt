@@ -1,4 +1,6 @@
 // The call commit: the list and the stored block of a choice that is handed in, least or not.
+#![tactic(auto)]
+
 ghost use Rattle.std.specs.Prelude.{◌≡◌, ◌≤◌, length};
 ghost use Rattle.format.specs.Limits.{list_most};
 ghost use Rattle.commit.specs.Commit.{may_have, choice_ruling, commit_answer, commit_list, commit_block};

@@ -2,6 +2,8 @@
 //
 // In order: two pieces of one size; two cursors side by side; the call. Neither version is built, and no byte of the store is read: where the origins are
 // the same, the versions are exactly when the stored blocks are.
+#![tactic(auto)]
+
 ghost use Rattle.std.specs.Prelude.{◌≡◌};
 ghost use Rattle.format.specs.Record.{records_of};
 ghost use Rattle.format.specs.Origins.{origins, same_source, same_origins};

@@ -2,6 +2,8 @@
 //
 // A file that is missing, cannot be read or is longer than its buffer is bad, and so is a price not of 6 bytes.
 // The text of a run is made by the crate `program`; only the reading and writing are here.
+#![tactic(auto)]
+
 ghost use Rattle.std.specs.Prelude.{◌+◌, ◌*◌, ◌≤◌, ◌≡◌, length};
 ghost use Rattle.io.specs.Counts.{IsPrefixLen};
 ghost use Rattle.console.specs.Price.{price_in};
@@ -9,14 +11,14 @@ ghost use Rattle.console.specs.Price.{price_in};
 use price::Price;
 
 // What was read of a file: whether it is bad, and how many bytes are at the front of its buffer.
-#[derive(Drop)]
+#[derive(Clone, Copy)]
 pub struct Read {
     pub bad: bool,
     pub bytes: usize,
 }
 
 // What the file price holds: a price, or it is bad.
-#[derive(Drop)]
+#[derive(Clone, Copy)]
 pub enum PriceFile {
     Holds(Price),
     Bad,

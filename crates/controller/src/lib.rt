@@ -1,6 +1,8 @@
 // The calls of section 4 for a controller in C (section 7): numbers, byte areas, and an answer area whose first 32 bytes they fill.
 //
 // Nothing is decided here. An answer area under 32 bytes gets 9 before the call is made, and nothing is written.
+#![tactic(auto)]
+
 ghost use Rattle.std.specs.Prelude.{◌≡◌};
 ghost use Rattle.area.specs.Area.{areas};
 ghost use Rattle.measure.specs.Measure.{measured};

@@ -1,6 +1,8 @@
 // Two lists side by side: the version cut at the borders of both, piece by piece.
 //
 // In order: a record cut in two; a cursor in a list, and the cursor some bytes further; one step of two cursors.
+#![tactic(auto)]
+
 ghost use Rattle.std.specs.Prelude.{◌≡◌, ◌+◌, ◌*◌, ◌≤◌, ◌<◌, min, length};
 ghost use Rattle.format.specs.Record.{row_at, record_of};
 ghost use Rattle.format.specs.Meaning.{size_of};
@@ -10,14 +12,14 @@ ghost use Rattle.cursors.specs.Cursor.{front, rest_at, moved, StepReady, Stepped
 use format::{Record, Source};
 
 // A place in a version, by its list: a record, and how many of its bytes are passed.
-#[derive(Drop)]
+#[derive(Clone, Copy)]
 pub struct Cursor {
     pub place: usize,
     pub within: u32,
 }
 
 // One step of two cursors: the two pieces, of one size, and both cursors behind them.
-#[derive(Drop)]
+#[derive(Clone, Copy)]
 pub struct Pieces {
     pub one: Record,
     pub two: Record,

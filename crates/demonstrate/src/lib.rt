@@ -1,5 +1,7 @@
 // The laws of section 8.1 as one function: it makes partition, rebuild, partition again and pass on lent areas, and returns their answers as
 // they are. Its contract says that each is that call, and that the statement holds of them.
+#![tactic(auto)]
+
 ghost use Rattle.area.specs.Area.{areas};
 ghost use Rattle.rebuild.specs.Rebuild.{Rebuilt};
 ghost use Rattle.call_partition.specs.Partition.{Partitioned};

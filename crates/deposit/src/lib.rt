@@ -1,5 +1,7 @@
 // A deposit into a volume as one function: it rebuilds the volume into an area, partitions a version against what then stands there, and returns the answers
 // as they are. Its contract says that each is that call, and that the version comes back as the next chunk, as do all before it.
+#![tactic(auto)]
+
 ghost use Rattle.area.specs.Area.{areas};
 ghost use Rattle.demand.specs.Volumes.{kept, Deposits};
 

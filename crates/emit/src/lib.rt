@@ -1,6 +1,8 @@
 // Writing a list record by record, with one left open, so that the next may join it.
 //
 // In order: the bytes of a record; the next record taken in; the last one written.
+#![tactic(auto)]
+
 ghost use Rattle.std.specs.Prelude.{◌≡◌, ◌+◌, ◌≤◌, ◌<◌, length};
 ghost use Rattle.format.specs.Record.{mark_byte, bytes_of, encode};
 ghost use Rattle.area.specs.Area.{pasted};
@@ -11,7 +13,7 @@ use format::Record;
 use join::Open;
 
 // What is left after a record is taken in: the place after what is written, and the record that is open.
-#[derive(Drop)]
+#[derive(Clone, Copy)]
 pub struct Emitted {
     pub out: usize,
     pub last: Open,

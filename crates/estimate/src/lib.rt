@@ -1,6 +1,8 @@
 // The call estimate: what partition would come to, and its choice, before an area is taken for list and stored block.
 //
 // The least choice comes from the sweeps. Its list is not written: its entries and stored bytes are counted, record by record beside the one before.
+#![tactic(auto)]
+
 ghost use Rattle.std.specs.Prelude.{◌≡◌, [], ◌∷◌};
 ghost use Rattle.format.specs.Meaning.{stored};
 ghost use Rattle.estimate.specs.Estimate.{estimate_answer, estimate_area};
@@ -12,7 +14,7 @@ use price::Price;
 use walk::Walked;
 
 // The entries of a list, and its stored bytes.
-#[derive(Drop)]
+#[derive(Clone, Copy)]
 pub struct Counts {
     pub entries: u32,
     pub stored: u32,

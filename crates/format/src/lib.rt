@@ -3,6 +3,8 @@
 // In order: faults and answers; the record's bytes.
 // Not here: what a list's length and a row must be by themselves (crate `checks`), and a record beside its neighbours, the version and the store (crate
 // `walk`).
+#![tactic(auto)]
+
 ghost use Rattle.std.specs.Prelude.{◌≡◌, ◌+◌, ◌*◌, ◌≤◌, ◌<◌, length};
 ghost use Rattle.format.specs.Refusal.{number, refuse, length_only, entries_only, figures_in};
 ghost use Rattle.format.specs.Record.{word_at, row_at, record_of};
@@ -22,7 +24,7 @@ pub const INDEX_MOST: usize = 8192;
 pub const RECORDS_MOST: u32 = 4096;
 
 // What is at fault, in the order of the numbers 1 to 16 (`number`).
-#[derive(Drop)]
+#[derive(Clone, Copy)]
 pub enum Fault {
     Price,
     TooLong,
@@ -43,21 +45,21 @@ pub enum Fault {
 }
 
 // A fault, and the record concerned, or the chunk of a volume, counted from 0; 0 where none is concerned.
-#[derive(Drop)]
+#[derive(Clone, Copy)]
 pub struct Refusal {
     pub fault: Fault,
     pub place: u32,
 }
 
 // What a check, or several in their order, come to.
-#[derive(Drop)]
+#[derive(Clone, Copy)]
 pub enum Ruling {
     Fine,
     Stop(Refusal),
 }
 
 // What an accepted call answers; what it does not give is 0.
-#[derive(Drop)]
+#[derive(Clone, Copy)]
 pub struct Figures {
     pub cost: u64,
     pub entries: u32,
@@ -67,14 +69,14 @@ pub struct Figures {
 }
 
 // What a call answers: its figures, or why it is refused.
-#[derive(Drop)]
+#[derive(Clone, Copy)]
 pub enum Answer {
     Accepted(Figures),
     Refused(Refusal),
 }
 
 // The fields of a record, as they stand.
-#[derive(Drop)]
+#[derive(Clone, Copy)]
 pub struct Row {
     pub kind: u8,
     pub byte1: u8,
@@ -85,14 +87,14 @@ pub struct Row {
 }
 
 // Where a match is drawn from: an address of the store; and whether it is held, so that it must go on being drawn from there.
-#[derive(Drop)]
+#[derive(Clone, Copy)]
 pub struct Source {
     pub address: u32,
     pub held: bool,
 }
 
 // A record: a new one of a size, or a match of a size with its source.
-#[derive(Drop)]
+#[derive(Clone, Copy)]
 pub enum Record {
     New(u32),
     Match(u32, Source),

@@ -1,4 +1,6 @@
 // What partition wrote, handed on: to rebuild, with the stored block, and to partition again, with the version.
+#![tactic(auto)]
+
 ghost use Rattle.area.specs.Area.{areas};
 ghost use Rattle.rebuild.specs.Rebuild.{Rebuilt};
 ghost use Rattle.call_partition.specs.Partition.{Partitioned};
@@ -7,7 +9,7 @@ use format::Answer;
 use price::Price;
 
 // What rebuild and partition answered.
-#[derive(Drop)]
+#[derive(Clone, Copy)]
 pub struct Both {
     pub rebuilt: Answer,
     pub again: Answer,

@@ -1,6 +1,8 @@
 // Which neighbouring records join, and what they become.
 //
 // `joins` alone says what joins; what is written, counted and priced follows from it.
+#![tactic(auto)]
+
 ghost use Rattle.std.specs.Prelude.{◌≡◌, cond, ◌+◌, ◌≤◌, ◌<◌};
 ghost use Rattle.join.specs.Join.{goes_on, joins, grown};
 ghost use Rattle.join.specs.Open.{open_size, follows};
@@ -8,7 +10,7 @@ ghost use Rattle.join.specs.Open.{open_size, follows};
 use format::{Record, Source};
 
 // A record that is not written yet, as the next may join it.
-#[derive(Drop)]
+#[derive(Clone, Copy)]
 pub enum Open {
     No,
     One(Record),

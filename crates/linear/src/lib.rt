@@ -2,6 +2,8 @@
 //
 // In order: a list loaded; a choice read off; the pass.
 // Not here: the looks (the crate machine), and what is refused. Callers hand in lists that were accepted.
+#![tactic(auto)]
+
 ghost use Rattle.std.specs.Prelude.{◌≡◌, ◌+◌, ◌*◌, ◌≤◌, ◌<◌, length};
 ghost use Rattle.format.specs.Limits.{version_most, list_most};
 ghost use Rattle.format.specs.Record.{row_at, record_of, records_of, records_from};

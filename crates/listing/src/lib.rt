@@ -1,6 +1,8 @@
 // The text of the program `partition` for files that were all read: the list of the least choice and the figures of both calls, or a refusal.
 //
 // Not here: what a bad file's text is (crate `program`), and reading and writing (crate `console`).
+#![tactic(auto)]
+
 ghost use Rattle.format.specs.Record.{records_of};
 ghost use Rattle.price.specs.Price.{rates_of};
 ghost use Rattle.report.specs.Text.{Written};

@@ -1,6 +1,8 @@
 // The calls check_loose and tidy: a list whose new records may stand side by side and whose runs may be unjoined, and its tidy form.
 //
 // In order: the checks of both calls; check_loose; the tidy form written; tidy.
+#![tactic(auto)]
+
 ghost use Rattle.std.specs.Prelude.{◌≡◌};
 ghost use Rattle.format.specs.Record.{records_of};
 ghost use Rattle.walk.specs.Walked.{walked};

@@ -2,6 +2,8 @@
 //
 // In order: the carried list; what a look sees; the advance and the four merges; a look; the run.
 // Not here: the outcome of a look (the crate rules), and how a list comes onto the machine and a choice off it (the crate linear).
+#![tactic(auto)]
+
 ghost use Rattle.std.specs.Prelude.{◌≡◌, ◌+◌, ◌≤◌, ◌<◌};
 ghost use Rattle.rules.specs.Rules.{mark};
 ghost use Rattle.machine.specs.Machine.{rear_at, cell_at, item_at, right_of, Sighted, gone_on, fused_back, fused_ahead, move_of, Reaches, Ready, Looked, Runnable, Ran};
@@ -24,7 +26,7 @@ pub struct Machine {
 }
 
 // What a look sees: p, with the one before it, the one after it and the second after it.
-#[derive(Drop)]
+#[derive(Clone, Copy)]
 pub struct Sight {
     pub before: Cell,
     pub p: Cell,
@@ -33,7 +35,7 @@ pub struct Sight {
 }
 
 // What an outcome does to the list: p's place gets `stays`, then the place `at` gets `made`, and the cursor goes to `left` and `right`.
-#[derive(Drop)]
+#[derive(Clone, Copy)]
 pub struct Move {
     pub left: usize,
     pub right: usize,

@@ -1,4 +1,6 @@
 // The call measure: the entries, stored bytes, whole length and cost of a list.
+#![tactic(auto)]
+
 ghost use Rattle.std.specs.Prelude.{◌≡◌};
 ghost use Rattle.measure.specs.Measure.{measured};
 

@@ -1,5 +1,7 @@
 // The program `partition`: reads the files price, items, version and store of the folder where it is run, and writes its text. Here it is run
 // on sheet C (clause 10.1 of docs/SPECIFICATION.md).
+#![tactic(auto)]
+
 fn main() {
     let mut price = io::large_buffer();
     let mut items = io::large_buffer();

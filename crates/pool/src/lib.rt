@@ -2,6 +2,8 @@
 //
 // In order: one piece; the records of the pooled list counted; the pooled list written; the checks of one list; the call. The code goes by stretches, the
 // shorter of the two current ones at a time; one step of two cursors serves the count and the writing.
+#![tactic(auto)]
+
 ghost use Rattle.std.specs.Prelude.{◌≡◌, ◌≤◌, length};
 ghost use Rattle.format.specs.Limits.{version_most};
 ghost use Rattle.format.specs.Record.{records_of, encode};
@@ -17,7 +19,7 @@ use join::Open;
 use walk::{Scope, Walked};
 
 // A piece, and both cursors behind it.
-#[derive(Drop)]
+#[derive(Clone, Copy)]
 pub struct Taken {
     pub piece: Record,
     pub first: Cursor,

@@ -2,6 +2,8 @@
 //
 // Three units: index bytes, disk bytes, and 256ths of a disk byte, in which every cost is. `index_cost` takes index bytes to it by the factor,
 // `disk_cost` takes disk bytes to it by 256.
+#![tactic(auto)]
+
 ghost use Rattle.std.specs.Prelude.{◌≡◌, ◌+◌, ◌*◌, ◌-◌, ◌≤◌, ◌<◌, [], ◌∷◌, length};
 ghost use Rattle.format.specs.Limits.{records_most, list_most};
 ghost use Rattle.format.specs.Record.{records_of};
@@ -10,19 +12,19 @@ ghost use Rattle.price.specs.Price.{entry_most, price_fits, rates_of, news, cost
 use format::Record;
 
 // Bytes of the index.
-#[derive(Drop)]
+#[derive(Clone, Copy)]
 pub struct IndexBytes(pub u64);
 
 // Bytes of disk.
-#[derive(Drop)]
+#[derive(Clone, Copy)]
 pub struct DiskBytes(pub u64);
 
 // 256ths of a disk byte, the unit of cost.
-#[derive(Drop)]
+#[derive(Clone, Copy)]
 pub struct Cost(pub u64);
 
 // EN and EM, the index bytes of a new entry and of a match, and F, the 256ths of a disk byte that one of them is worth.
-#[derive(Drop)]
+#[derive(Clone, Copy)]
 pub struct Price {
     pub en: u32,
     pub em: u32,
@@ -30,7 +32,7 @@ pub struct Price {
 }
 
 // What a list costs by its parts: a new entry, a kept match, and a stored byte.
-#[derive(Drop)]
+#[derive(Clone, Copy)]
 pub struct Rates {
     pub fresh: Cost,
     pub kept: Cost,

@@ -1,6 +1,8 @@
 // The text of the program `partition`, for what was read of the files price, items, version and store.
 //
 // The first bad file, in that order, is named, and nothing else is written. Reading and writing are in the crate `console`.
+#![tactic(auto)]
+
 ghost use Rattle.std.specs.Prelude.{◌≡◌};
 ghost use Rattle.report.specs.Text.{Written};
 ghost use Rattle.io.specs.Counts.{IsPrefixLen};

@@ -1,4 +1,6 @@
 // The call rebuild: the version that a list, its stored block and the store stand for.
+#![tactic(auto)]
+
 ghost use Rattle.std.specs.Prelude.{◌≡◌};
 ghost use Rattle.rebuild.specs.Rebuild.{rebuild_answer, rebuild_area, Ready, filled};
 

@@ -1,4 +1,6 @@
 // The call rebuild_volume: the checks of the index, of each chunk and of the area, in their order; then the volume is rebuilt.
+#![tactic(auto)]
+
 ghost use Rattle.std.specs.Prelude.{◌≡◌, ◌≤◌, length};
 ghost use Rattle.format.specs.Limits.{index_most};
 ghost use Rattle.format.specs.Refusal.{refuse};
@@ -10,7 +12,7 @@ use format::{Answer, Fault, Refusal};
 use walk::{Scope, Walked};
 
 // The sums of the list lengths and of the stored lengths of an index.
-#[derive(Drop)]
+#[derive(Clone, Copy)]
 pub struct Sums {
     pub lists: usize,
     pub blocks: usize,

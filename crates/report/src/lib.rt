@@ -1,4 +1,6 @@
 // The text of the program `partition`, made in a lent area: the written records, one line of figures; or a refusal; or the name of a bad file.
+#![tactic(auto)]
+
 ghost use Rattle.std.specs.Prelude.{◌≡◌, ◌+◌, ◌*◌, ◌/◌, ◌≤◌, length};
 ghost use Rattle.format.specs.Record.{records_of};
 ghost use Rattle.report.specs.Text.{decimal, field, last_field, record_text, records_text, least_text, pass_text, report_text, refusal_text, bad_file_text, Written};

@@ -2,6 +2,8 @@
 //
 // In order: the outcomes; a kind and a size; the rules after a new record; all five rules.
 // Not here: the list that the looks go over, and what an outcome does to it.
+#![tactic(auto)]
+
 ghost use Rattle.std.specs.Prelude.{◌≡◌, ◌+◌, ◌≤◌};
 ghost use Rattle.format.specs.Limits.{version_most};
 ghost use Rattle.price.specs.Price.{RatesFit};
@@ -10,7 +12,7 @@ ghost use Rattle.rules.specs.Rules.{Item, new, match, tests_of, outcome_at, cell
 use price::{Cost, Rates};
 
 // A merge, by what becomes one with p, and the bytes fused: the size of the record made.
-#[derive(Drop)]
+#[derive(Clone, Copy)]
 pub enum Merge {
     Both(u32),
     Before(u32),
@@ -19,14 +21,14 @@ pub enum Merge {
 }
 
 // How a look ends.
-#[derive(Drop)]
+#[derive(Clone, Copy)]
 pub enum Outcome {
     Advance,
     Merged(Merge),
 }
 
 // A kind and a size: kind 0 is new, 1 a match, any other neither.
-#[derive(Drop)]
+#[derive(Clone, Copy)]
 pub struct Cell {
     pub kind: u8,
     pub size: u32,

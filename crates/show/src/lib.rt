@@ -2,6 +2,8 @@
 //
 // In order: the checks of a list with its block (`read`), of list, block and store (`accept`), and of the place; check; the part that a record stands for;
 // show.
+#![tactic(auto)]
+
 ghost use Rattle.std.specs.Prelude.{◌≡◌, ◌+◌, ◌≤◌, ◌<◌, [], ◌∷◌, length, take};
 ghost use Rattle.format.specs.Limits.{version_most};
 ghost use Rattle.format.specs.Meaning.{stored, part_of};

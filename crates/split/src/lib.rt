@@ -1,5 +1,7 @@
 // Partition in two steps as one function: it makes an estimate and a commitment of its choice on lent areas, and returns their answers as they are. Its
 // contract is partition's, and says that each is that call.
+#![tactic(auto)]
+
 ghost use Rattle.area.specs.Area.{areas};
 ghost use Rattle.demand.specs.Split.{TwoCalls};
 

@@ -3,6 +3,8 @@
 // From the rear: the least cost of what follows a kept and a stored record, and for each record two bits, what to do after either. A record is priced
 // by the one before it, which it may join (crate `choice`); which way is better is said in the crate `weigh`.
 // From the front: each pair of bits becomes the choice byte.
+#![tactic(auto)]
+
 ghost use Rattle.std.specs.Prelude.{◌≡◌, ◌*◌, ◌/◌, ◌≤◌, length};
 ghost use Rattle.sweep.specs.Sweep.{before_at, Room, Back, next_bit, forwards, LeastIn};
 

@@ -1,5 +1,7 @@
 // Tidying twice as one function: it makes both calls on lent areas and returns their answers as they are. Its contract says that each is that call, and that
 // the second gives what the first gave.
+#![tactic(auto)]
+
 ghost use Rattle.demand.specs.Tidying.{TwoCalls};
 
 use demand::TwiceTidied;

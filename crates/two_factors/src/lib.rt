@@ -1,5 +1,7 @@
 // Partition at two factors as one function: it makes both calls on lent areas and returns their answers as they are. Its contract says that each is that
 // call, and what is so of them where the second factor is no less than the first.
+#![tactic(auto)]
+
 ghost use Rattle.price.specs.Price.{price_at};
 ghost use Rattle.area.specs.Area.{areas};
 ghost use Rattle.call_partition.specs.Partition.{Partitioned};

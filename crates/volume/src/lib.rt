@@ -2,6 +2,8 @@
 //
 // In order: an index record; one record of a chunk; a chunk; the volume.
 // Not here: the checks (crate `rebuild_volume`).
+#![tactic(auto)]
+
 ghost use Rattle.std.specs.Prelude.{◌≡◌, ◌+◌, ◌*◌, ◌≤◌, length};
 ghost use Rattle.area.specs.Area.{pasted};
 ghost use Rattle.volume.specs.Volume.{index_row_at};
@@ -10,7 +12,7 @@ ghost use Rattle.volume.specs.Filling.{PartReady, part_bytes, ChunkReady, ChunkF
 use format::Record;
 
 // An index record: the bytes of a chunk's list, and of its stored block.
-#[derive(Drop)]
+#[derive(Clone, Copy)]
 pub struct IndexRow {
     pub list: u32,
     pub block: u32,

@@ -1,6 +1,8 @@
 // The walk over a list: checks 4 to 8, and 15 and 16 of a chunk, record by record, in their order. The first that fails is the refusal.
 //
 // One walk serves every call; its scope says which checks the call has the inputs for, and that a loose list is not asked for check 5. Of a chunk it says how many bytes are rebuilt before it.
+#![tactic(auto)]
+
 ghost use Rattle.std.specs.Prelude.{◌≡◌, false, ◌&&◌, [], ◌∷◌, ◌+◌, ◌≤◌, ◌<◌, length, take, drop};
 ghost use Rattle.format.specs.Limits.{version_most, volume_most, records_most};
 ghost use Rattle.format.specs.Refusal.{refuse, need};
@@ -16,7 +18,7 @@ const LIMIT: u32 = format::VERSION_MOST as u32;
 
 // What a call has beside the list: nothing; the store; the store, where the list is loose; version and store; both, where the list is loose; of a chunk
 // of a volume, how many bytes are rebuilt before it.
-#[derive(Drop)]
+#[derive(Clone, Copy)]
 pub enum Scope {
     Sizes,
     Store,
@@ -27,7 +29,7 @@ pub enum Scope {
 }
 
 // What was seen before a record: how many records, their sizes together, those of the new ones, and whether the last was new.
-#[derive(Drop)]
+#[derive(Clone, Copy)]
 pub struct Seen {
     pub place: u32,
     pub offset: u32,
@@ -36,7 +38,7 @@ pub struct Seen {
 }
 
 // Of a list that was walked through: the number of records, the sum of the sizes of new records, the sum of all sizes.
-#[derive(Drop)]
+#[derive(Clone, Copy)]
 pub struct Totals {
     pub entries: u32,
     pub stored: u32,
@@ -44,7 +46,7 @@ pub struct Totals {
 }
 
 // What a walk comes to: the totals of a list that it went through, or the refusal at which it stopped.
-#[derive(Drop)]
+#[derive(Clone, Copy)]
 pub enum Walked {
     Through(Totals),
     Stopped(Refusal),

@@ -1,6 +1,8 @@
 // The better way with one record, keeping or storing it, after the one before it and before what follows.
 //
 // Not here: what a record adds to a cost (crate `choice`); the sweeps over a list (crate `sweep`).
+#![tactic(auto)]
+
 ghost use Rattle.std.specs.Prelude.{◌≡◌, ◌≤◌};
 ghost use Rattle.price.specs.Price.{RatesFit};
 ghost use Rattle.choice.specs.Choice.{store};
@@ -12,14 +14,14 @@ use join::Open;
 use price::{Cost, Rates};
 
 // The better way with a record: the least cost from it on, and its bit.
-#[derive(Drop)]
+#[derive(Clone, Copy)]
 pub struct Way {
     pub cost: Cost,
     pub bit: u8,
 }
 
 // What a record comes to: the least costs from it on, after a kept and after a stored record, and its two bits.
-#[derive(Drop)]
+#[derive(Clone, Copy)]
 pub struct Turn {
     pub kept: Cost,
     pub stored: Cost,

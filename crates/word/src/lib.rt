@@ -1,6 +1,8 @@
 // One word of eight bytes, and one byte: whether two lists hold the same there.
 //
 // Not here: stretches of any length (crate `words`).
+#![tactic(auto)]
+
 ghost use Rattle.std.specs.Prelude.{◌≡◌, ◌+◌, ◌≤◌, ◌<◌, length, take, drop};
 ghost use Rattle.word.specs.Word.{word_of, eight_at, Tells};
 

@@ -2,6 +2,8 @@
 //
 // In order: blocks of eight words; up to seven bytes, two words, four words; whole words; stretches.
 // Not here: one word, one byte (crate `word`); which stretches are compared (crates `walk` and `compare`).
+#![tactic(auto)]
+
 ghost use Rattle.std.specs.Prelude.{◌≡◌, ◌+◌, ◌%◌, ◌≤◌, ◌<◌, min, length, take, drop};
 ghost use Rattle.word.specs.Word.{Tells};
 ghost use Rattle.words.specs.Same.{same_bytes};

@@ -1,4 +1,6 @@
 // Writing what a choice makes of a list: its list, its stored block, and the figures of both.
+#![tactic(auto)]
+
 ghost use Rattle.writer.specs.Write.{RunReady, RunOf, ListReady, ListWritten, BlockReady, BlockWritten};
 ghost use Rattle.writer.specs.Decide.{Finishable, Finished};
 
@@ -7,7 +9,7 @@ use join::Open;
 use price::Rates;
 
 // An entry of the choice's list before it joins another, and the record after those that it stands for.
-#[derive(Drop)]
+#[derive(Clone, Copy)]
 pub struct Run {
     pub entry: Record,
     pub next: usize,
@@ -64,7 +66,7 @@ fn write_list(list: &[u8], choice: &[u8], list_area: &mut [u8]) -> usize
 }
 
 // The length of a stored block, and the new entries of its list.
-#[derive(Drop)]
+#[derive(Clone, Copy)]
 pub struct Stored {
     pub bytes: usize,
     pub fresh: u64,
