@@ -12,7 +12,7 @@ pub fn put_plain(area: &mut [u8], at: usize, src: &[u8])
     requires { at + length src.now ≤ length area.old }
     ensures { area.new ≡ pasted at src.now area.old }
 {
-    bytes::copy(src, &mut area[at..]);
+    area[at..at + src.len()].copy_from_slice(src);
 }
 
 // Copies a block. It is read whole before it is written, so that it can be compiled to loads and then stores.
@@ -21,7 +21,8 @@ fn put_block(area: &mut [u8], at: usize, src: &[u8])
     ensures { area.new ≡ pasted at src.now area.old }
 {
     let mut block = [0u8; 64];
-    let n = bytes::copy(src, &mut block);
+    let n = src.len();
+    block[..n].copy_from_slice(src);
     put_plain(area, at, &block[..n]);
 }
 
@@ -68,9 +69,8 @@ fn copy_block(area: &mut [u8], from: usize, to: usize, n: usize)
     ensures { area.new ≡ repeated from to n area.old }
 {
     let mut block = [0u8; 256];
-    let end = from + n;
-    let k = bytes::copy(&area[from..end], &mut block);
-    put_plain(area, to, &block[..k]);
+    block[..n].copy_from_slice(&area[from..from + n]);
+    put_plain(area, to, &block[..n]);
 }
 
 // Copies n bytes by blocks of k; the last k bytes are copied whether or not some of them stand there already.

@@ -1,0 +1,16 @@
+-- `estimate::count` meets its contract. The invariant: `Counting` says what is counted before record i, and what is to come. The measure is the number
+-- of records left. Assumes nothing.
+use Prim.Native.Nat.{◌-◌, ◌/◌, ◌≤◌}
+use native.Mathlib.Omega.{arith}
+use mathlib.Core.Path.{◌≡◌, ◌∙◌, ap}
+use lib.ListN.{length}
+use Rattle.format.specs.Record.{row_at, record_of}
+use Rattle.choice.specs.Choice.{bit_at, chosen_record}
+use Rattle.estimate.proofs.Counting.{Counting, counting_start, counting_next, counting_end, entries_most, stored_within}
+use Rattle.estimate.proofs.count.Given as goal
+
+abbrev pub invariant-loop-i : goal.invariant-loop-i
+invariant-loop-i l = (l.i ≤ l.n) × Counting l.list l.choice l.n l.i l.last l.entries l.stored
+
+abbrev pub decreases-loop-i : goal.decreases-loop-i
+decreases-loop-i l = l.n - l.i

@@ -1,0 +1,16 @@
+-- `rebuild_volume::sums_of` meets its contract. The invariant: the sums so far and those of the records left are the index's; each sum stays below 2³² for each
+-- record. The measure is the number of records left. Assumes nothing.
+use Prim.Native.Nat.{◌+◌, ◌-◌, ◌*◌, ◌/◌, ◌≤◌}
+use native.Mathlib.Omega.{arith}
+use mathlib.Core.Path.{◌≡◌, sym, ◌∙◌, ap}
+use lib.ListN.{length}
+use Rattle.volume.specs.Volume.{index_row_at, index_rows_of, lists_length, blocks_length}
+use Rattle.volume.proofs.Cutting.{rows_from, rows_all, rows_none, rows_next}
+use Rattle.rebuild_volume.proofs.sums_of.Given as goal
+
+abbrev pub invariant-loop-i : goal.invariant-loop-i
+invariant-loop-i l = (l.i ≤ l.n) × (l.lists ≤ 4294967295 * l.i) × (l.blocks ≤ 4294967295 * l.i)
+    × (l.lists + lists_length (rows_from l.index l.n l.i) ≡ lists_length (index_rows_of l.index)) × (l.blocks + blocks_length (rows_from l.index l.n l.i) ≡ blocks_length (index_rows_of l.index))
+
+abbrev pub decreases-loop-i : goal.decreases-loop-i
+decreases-loop-i l = l.n - l.i

@@ -1,0 +1,32 @@
+-- `sweep::backwards` meets its contract. The invariant: from record i on, the area holds the hints, and `kept` and `stored` are the least costs of
+-- what follows the record before it, kept or stored, each at most a fixed sum for a record. The measure is i. Assumes nothing.
+use Prim.Native.Nat.{ℕ, ◌+◌, ◌*◌, ◌-◌, ◌≤◌, ◌<◌}
+use native.Mathlib.Omega.{arith}
+use mathlib.Core.Path.{◌≡◌, refl, sym, ◌∙◌, ap, ap₂}
+use mathlib.Core.List.{List, [], ◌∷◌, ◌++◌}
+use lib.ListN.{length, take, drop, set, take-append-drop}
+use Rattle.format.specs.declared.Record.{Record}
+use Rattle.format.specs.Record.{records_from}
+use Rattle.price.specs.declared.Rates.{Rates}
+use Rattle.join.specs.declared.Open.{Open}
+use Rattle.choice.specs.Choice.{keep}
+use Rattle.choice.specs.Path.{step_most}
+use Rattle.weigh.specs.Weigh.{left_by, turned}
+use Rattle.sweep.specs.Sweep.{hint_bytes, hints_of, best_of, before_at}
+use Rattle.sweep.proofs.Sweeping.{Swept, swept_end, swept_next, set_back}
+use Rattle.sweep.proofs.backwards.Given as goal
+
+record Inv (rates : Rates) (list : List ℕ) (n : ℕ) (choice₀ choice : List ℕ) (i kept stored : ℕ) : Type 0 where
+  in_n : i ≤ n
+  same : length choice ≡ length choice₀
+  kept_most : kept + step_most * i ≤ step_most * n
+  stored_most : stored + step_most * i ≤ step_most * n
+  done : List ℕ
+  swept : Swept rates list n i kept stored done
+  area : choice ≡ take i choice₀ ++ (done ++ drop n choice₀)
+
+abbrev pub invariant-loop-i : goal.invariant-loop-i
+invariant-loop-i l = Inv l.rates l.list l.n l.initial.choice l.choice l.i l.kept.0 l.stored.0
+
+abbrev pub decreases-loop-i : goal.decreases-loop-i
+decreases-loop-i l = l.i

@@ -1,0 +1,21 @@
+-- `sweep::settle` meets its contract. The invariant: the first i bytes are settled, and the rest settles to what is to come. The measure is what is
+-- left of n. Assumes nothing.
+use Prim.Native.Nat.{ℕ, ◌-◌, ◌≤◌}
+use native.Mathlib.Omega.{arith}
+use mathlib.Core.Path.{◌≡◌, refl, sym, ◌∙◌, ap}
+use mathlib.Core.List.{List, ◌++◌}
+use lib.ListN.{length, take, drop, take-append-drop}
+use Rattle.sweep.specs.Sweep.{forwards}
+use Rattle.sweep.proofs.Sweeping.{forth_turn}
+use Rattle.sweep.proofs.settle.Given as goal
+
+record Inv (n : ℕ) (choice₀ choice : List ℕ) (i b : ℕ) : Type 0 where
+  in_n : i ≤ n
+  same : length choice ≡ length choice₀
+  area : forwards n 0 choice₀ ≡ take i choice ++ forwards (n - i) b (drop i choice)
+
+abbrev pub invariant-loop-i : goal.invariant-loop-i
+invariant-loop-i l = Inv l.n l.initial.choice l.choice l.i l.b
+
+abbrev pub decreases-loop-i : goal.decreases-loop-i
+decreases-loop-i l = l.n - l.i

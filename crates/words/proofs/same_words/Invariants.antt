@@ -1,0 +1,13 @@
+-- `words::same_words` meets its contract. Invariant: `Passed`, the blocks so far are the same. Measure: the bytes left before the last block. Assumes nothing.
+use Prim.Native.Nat.{◌+◌, ◌-◌}
+use native.Mathlib.Omega.{arith}
+use mathlib.Core.Path.{refl}
+use lib.ListN.{length}
+use Rattle.words.proofs.Stretches.{Passed, other_rest, less_left, started, stopped, went_on, fewer, ended_same, ends_tell, all_tell}
+use Rattle.words.proofs.same_words.Given as goal
+
+abbrev pub invariant-loop-i : goal.invariant-loop-i
+invariant-loop-i l = Passed l.a l.b l.i
+
+abbrev pub decreases-loop-i : goal.decreases-loop-i
+decreases-loop-i l = l.last - l.i
