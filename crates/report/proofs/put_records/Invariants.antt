@@ -8,11 +8,11 @@ use lib.ListN.{length}
 use Rattle.report.proofs.Composing.{Listed, listed_start, listed_next, listed_end}
 use Rattle.report.proofs.put_records.Given as goal
 
-record Inv (area₀ list : List ℕ) (n : ℕ) (area : List ℕ) (at i : ℕ) : Type 0 where
-  in_n : i ≤ n
-  same : length area ≡ length area₀
-  most : at ≤ 44 * i
-  listed : Listed list area₀ area n i at
+pub record Inv (area₀ list : List ℕ) (n : ℕ) (area : List ℕ) (at i : ℕ) : Type 0 where
+  pub in_n : i ≤ n
+  pub same : length area ≡ length area₀
+  pub most : at ≤ 44 * i
+  pub listed : Listed list area₀ area n i at
 
 abbrev pub invariant-loop-i : goal.invariant-loop-i
 invariant-loop-i l = Inv l.initial.area l.list l.n l.area l.at l.i

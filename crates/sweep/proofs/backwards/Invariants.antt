@@ -16,14 +16,14 @@ use Rattle.sweep.specs.Sweep.{hint_bytes, hints_of, best_of, before_at}
 use Rattle.sweep.proofs.Sweeping.{Swept, swept_end, swept_next, set_back}
 use Rattle.sweep.proofs.backwards.Given as goal
 
-record Inv (rates : Rates) (list : List ℕ) (n : ℕ) (choice₀ choice : List ℕ) (i kept stored : ℕ) : Type 0 where
-  in_n : i ≤ n
-  same : length choice ≡ length choice₀
-  kept_most : kept + step_most * i ≤ step_most * n
-  stored_most : stored + step_most * i ≤ step_most * n
-  done : List ℕ
-  swept : Swept rates list n i kept stored done
-  area : choice ≡ take i choice₀ ++ (done ++ drop n choice₀)
+pub record Inv (rates : Rates) (list : List ℕ) (n : ℕ) (choice₀ choice : List ℕ) (i kept stored : ℕ) : Type 0 where
+  pub in_n : i ≤ n
+  pub same : length choice ≡ length choice₀
+  pub kept_most : kept + step_most * i ≤ step_most * n
+  pub stored_most : stored + step_most * i ≤ step_most * n
+  pub done : List ℕ
+  pub swept : Swept rates list n i kept stored done
+  pub area : choice ≡ take i choice₀ ++ (done ++ drop n choice₀)
 
 abbrev pub invariant-loop-i : goal.invariant-loop-i
 invariant-loop-i l = Inv l.rates l.list l.n l.initial.choice l.choice l.i l.kept.0 l.stored.0

@@ -9,10 +9,10 @@ use Rattle.sweep.specs.Sweep.{forwards}
 use Rattle.sweep.proofs.Sweeping.{forth_turn}
 use Rattle.sweep.proofs.settle.Given as goal
 
-record Inv (n : ℕ) (choice₀ choice : List ℕ) (i b : ℕ) : Type 0 where
-  in_n : i ≤ n
-  same : length choice ≡ length choice₀
-  area : forwards n 0 choice₀ ≡ take i choice ++ forwards (n - i) b (drop i choice)
+pub record Inv (n : ℕ) (choice₀ choice : List ℕ) (i b : ℕ) : Type 0 where
+  pub in_n : i ≤ n
+  pub same : length choice ≡ length choice₀
+  pub area : forwards n 0 choice₀ ≡ take i choice ++ forwards (n - i) b (drop i choice)
 
 abbrev pub invariant-loop-i : goal.invariant-loop-i
 invariant-loop-i l = Inv l.n l.initial.choice l.choice l.i l.b

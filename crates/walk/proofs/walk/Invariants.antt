@@ -15,10 +15,10 @@ use Rattle.walk.proofs.Judged.{limit_most, sizes_of_fine}
 use Rattle.walk.proofs.Walking.{SoFar, so_far_front, so_far_next, so_far_stop, so_far_end}
 use Rattle.walk.proofs.walk.Given as goal
 
-record Inv (list version store : List ℕ) (scope : Scope) (limit n : ℕ) (seen : Seen) (i : ℕ) : Type 0 where
-  in_n : i ≤ n
-  offset_most : seen.offset ≤ limit
-  so_far : SoFar (checks scope version store) list n i seen
+pub record Inv (list version store : List ℕ) (scope : Scope) (limit n : ℕ) (seen : Seen) (i : ℕ) : Type 0 where
+  pub in_n : i ≤ n
+  pub offset_most : seen.offset ≤ limit
+  pub so_far : SoFar (checks scope version store) list n i seen
 
 abbrev pub invariant-loop-i : goal.invariant-loop-i
 invariant-loop-i l = Inv l.list l.version l.store l.scope l.limit l.n l.seen l.i
