@@ -11,12 +11,6 @@ use Rattle.cursors.proofs.Cursors.{within_less, end_most, left_most}
 use Rattle.std.proofs.Common.{rules}
 use Rattle.cursors.proofs.step.Goals as goal
 
-sized : (c : tie.After-smaller) → let g = c.before.before.before.before.before.before.before.args in c.smaller.result ≡ piece_size g.first.now g.second.now g.x g.y
-
-sized c =
-    c.smaller.ensures
-    ∙ ap₂ min (c.before.before.type_size.ensures ∙ ap size_of c.before.before.before.before.rest_at.ensures) (c.before.size-of2.ensures ∙ ap size_of c.before.before.before.rest-at2.ensures)
-
 pub rest_at-b-requires : goal.rest_at-b-requires
 rest_at-b-requires c =
     let p = c.requires in
