@@ -1,0 +1,29 @@
+use Prim.Native.Nat.{ℕ, ◌+◌, ◌-◌, ◌≤◌}
+use native.Mathlib.Omega.{arith}
+use mathlib.Core.Path.{◌≡◌, refl, sym, ◌∙◌, ap}
+use mathlib.Core.List.{[], ◌∷◌}
+use lib.ListN.{take, get_or}
+use Rattle.format.specs.declared.Record.{Record}
+use Rattle.format.specs.declared.Record.TheVariants.{New}
+use Rattle.format.specs.Record.{records_of}
+use Rattle.format.specs.Meaning.{stored}
+use Rattle.format.proofs.Rows.{length_records_of, get_d_records_of, stored_take_next, stored_take_most}
+use Rattle.std.proofs.Common.{rules}
+use Rattle.show.proofs.stored_before.Goals as goal
+
+pub record_at-record-requires : goal.record_at-record-requires
+record_at-record-requires c = omega (arith, length_records_of c.args.list.now)
+
+pub stored_after-sum-requires : goal.stored_after-sum-requires
+stored_after-sum-requires c =
+    let l = records_of c.args.list.now in
+    let i = c.loop-i.i in
+    let r : c.record_at-record.result ≡ get_or l i (New 0) = c.record_at-record.ensures ∙ sym (get_d_records_of c.args.list.now i (omega arith)) in
+    omega (arith, ap (λ (x : Record). stored (x ∷ [])) r, c.loop-i.invariant.1, stored_take_next l i (omega arith), stored_take_most l (i + 1))
+
+pub loop-i-preserved : goal.loop-i-preserved
+loop-i-preserved c =
+    let l = records_of c.args.list.now in
+    let i = c.loop-i.i in
+    let r : c.record_at-record.result ≡ get_or l i (New 0) = c.record_at-record.ensures ∙ sym (get_d_records_of c.args.list.now i (omega arith)) in
+    (omega arith, omega (arith, c.stored_after-sum.ensures, ap (λ (x : Record). stored (x ∷ [])) r, c.loop-i.invariant.1, stored_take_next l i (omega arith)))
