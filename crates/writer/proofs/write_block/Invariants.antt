@@ -9,7 +9,7 @@ use Rattle.writer.proofs.Writing.{Storing, storing_start, storing_end, storing_s
 use Rattle.writer.proofs.write_block.Given as goal
 
 abbrev pub invariant-loop-i : goal.invariant-loop-i
-invariant-loop-i l = (l.i ≤ l.n) × Storing l.list l.version l.initial.block l.block l.n l.i l.at l.out l.fresh
+invariant-loop-i l = (l.i ≤ l.n) × Storing l.list l.version l.initial.block_area l.block_area l.n l.i l.at l.out l.fresh
 
 abbrev pub decreases-loop-i : goal.decreases-loop-i
 decreases-loop-i l = l.n - l.i

@@ -11,7 +11,7 @@ use Rattle.writer.proofs.Writing.{chosen_from_all, chosen_from_none}
 use Rattle.writer.proofs.write_list.Given as goal
 
 abbrev pub invariant-loop-i : goal.invariant-loop-i
-invariant-loop-i l = (l.i ≤ l.n) × Listing (chosen (records_of l.list) (bits_of (length l.list / 12) l.choice)) l.initial.area l.area l.out l.last (chosen_from l.list l.choice l.n l.i)
+invariant-loop-i l = (l.i ≤ l.n) × Listing (chosen (records_of l.list) (bits_of (length l.list / 12) l.choice)) l.initial.list_area l.list_area l.out l.last (chosen_from l.list l.choice l.n l.i)
 
 abbrev pub decreases-loop-i : goal.decreases-loop-i
 decreases-loop-i l = l.n - l.i

@@ -1,0 +1,39 @@
+-- `loose::tidy` meets its contract: refused as the checks say, or the tidy form and the number of its records. Assumes nothing.
+-- all checks have passed
+-- the records written are those of the tidy form
+use Prim.Native.Nat.{◌/◌}
+use native.Mathlib.Omega.{arith}
+use mathlib.Core.Path.{◌≡◌, sym, ◌∙◌}
+use lib.ListN.{length}
+use Rattle.format.specs.declared.Ruling.TheVariants.{Fine}
+use Rattle.format.specs.Record.{records_of}
+use Rattle.format.proofs.Encoding.{length_encode}
+use Rattle.join.proofs.Joining.{length_tidy}
+use Rattle.walk.proofs.Telling.{fine_of_through, stop_of_refusal}
+use Rattle.loose.specs.Loose.{tidy_ruling, tidy_form}
+use Rattle.loose.proofs.Accepting.{Accepts, accepts_of_fine, ready_of_accepts}
+use Rattle.std.proofs.Common.{rules}
+use Rattle.loose.proofs.tidy.Goals as goal
+use Rattle.loose.proofs.tidy.Goals.{After-write_tidy-bytes, In-Through}
+
+fine : (c : In-Through) → let g = c.args in tidy_ruling g.list.now g.store.now (length g.list_area.now) ≡ Fine
+fine c =
+    let g = c.args in
+    (fine_of_through (tidy_ruling g.list.now g.store.now (length g.list_area.now)) (records_of g.list.now) c.in-Through._totals (sym c.accept-w.ensures ∙ c.in-Through.is)).0
+
+passed : (c : In-Through) → let g = c.args in Accepts g.list.now g.store.now (length g.list_area.now)
+passed c = let g = c.args in accepts_of_fine g.list.now g.store.now (length g.list_area.now) (fine c)
+
+counted : (c : After-write_tidy-bytes) → c.write_tidy-bytes.result / 12 ≡ length (tidy_form c.args.list.now)
+counted c = omega (arith, c.write_tidy-bytes.ensures.length_is, length_encode (tidy_form c.args.list.now))
+
+pub write_tidy-bytes-requires : goal.write_tidy-bytes-requires
+write_tidy-bytes-requires c = ready_of_accepts (passed (goal.at.write_tidy-bytes-requires c).In-Through)
+
+pub overflow_cast-bytes : goal.overflow_cast-bytes
+overflow_cast-bytes c = omega (arith, counted (goal.at.overflow_cast-bytes c).After-write_tidy-bytes, length_tidy (records_of c.args.list.now), (passed (goal.at.overflow_cast-bytes c).In-Through).counted.count_most, (passed (goal.at.overflow_cast-bytes c).In-Through).counted.list_at_most)
+
+pub returns : goal.returns
+returns c =
+    let w = c in
+    (rw (fine w, ← counted (goal.at.returns c).After-write_tidy-bytes) c.entries_only.ensures, rw (fine w) c.write_tidy-bytes.ensures.area_after)
