@@ -59,6 +59,9 @@ bytes_joined [] r = omega arith
 bytes_joined (x ∷ l) r = omega (arith, bytes_joined l (x ∷ r))
 
 pub two_of_starts : (x : List Item) → Starts x → 2 ≤ length x
+two_of_starts [] h = absurd h
+two_of_starts (new s ∷ l) h = absurd h
+two_of_starts (match s ∷ l) h = absurd h
 two_of_starts (neither s ∷ []) h = absurd h
 two_of_starts (neither s ∷ y ∷ l) h = omega arith
 

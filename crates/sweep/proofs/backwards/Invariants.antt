@@ -1,19 +1,12 @@
 -- `sweep::backwards` meets its contract. The invariant: from record i on, the area holds the hints, and `kept` and `stored` are the least costs of
 -- what follows the record before it, kept or stored, each at most a fixed sum for a record. The measure is i. Assumes nothing.
-use Prim.Native.Nat.{ℕ, ◌+◌, ◌*◌, ◌-◌, ◌≤◌, ◌<◌}
-use native.Mathlib.Omega.{arith}
-use mathlib.Core.Path.{◌≡◌, refl, sym, ◌∙◌, ap, ap₂}
-use mathlib.Core.List.{List, [], ◌∷◌, ◌++◌}
-use lib.ListN.{length, take, drop, set, take-append-drop}
-use Rattle.format.specs.declared.Record.{Record}
-use Rattle.format.specs.Record.{records_from}
+use Prim.Native.Nat.{ℕ, ◌+◌, ◌*◌, ◌≤◌}
+use mathlib.Core.Path.{◌≡◌}
+use mathlib.Core.List.{List, ◌++◌}
+use lib.ListN.{length, take, drop}
 use Rattle.price.specs.declared.Rates.{Rates}
-use Rattle.join.specs.declared.Open.{Open}
-use Rattle.choice.specs.Choice.{keep}
 use Rattle.choice.specs.Path.{step_most}
-use Rattle.weigh.specs.Weigh.{left_by, turned}
-use Rattle.sweep.specs.Sweep.{hint_bytes, hints_of, best_of, before_at}
-use Rattle.sweep.proofs.Sweeping.{Swept, swept_end, swept_next, set_back}
+use Rattle.sweep.proofs.Sweeping.{Swept}
 use Rattle.sweep.proofs.backwards.Given as goal
 
 pub record Inv (rates : Rates) (list : List ℕ) (n : ℕ) (choice₀ choice : List ℕ) (i kept stored : ℕ) : Type 0 where

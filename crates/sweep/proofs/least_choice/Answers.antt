@@ -1,6 +1,5 @@
 -- `sweep::least_choice` meets its contract: what the two sweeps leave is the least choice. Assumes nothing.
 use Rattle.sweep.proofs.Sweeping.{least_in}
-use Rattle.std.proofs.Common.{rules}
 use Rattle.sweep.proofs.least_choice.Goals as goal
 
 pub returns : goal.returns

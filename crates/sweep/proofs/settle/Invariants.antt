@@ -1,12 +1,10 @@
 -- `sweep::settle` meets its contract. The invariant: the first i bytes are settled, and the rest settles to what is to come. The measure is what is
 -- left of n. Assumes nothing.
 use Prim.Native.Nat.{ℕ, ◌-◌, ◌≤◌}
-use native.Mathlib.Omega.{arith}
-use mathlib.Core.Path.{◌≡◌, refl, sym, ◌∙◌, ap}
+use mathlib.Core.Path.{◌≡◌}
 use mathlib.Core.List.{List, ◌++◌}
-use lib.ListN.{length, take, drop, take-append-drop}
+use lib.ListN.{length, take, drop}
 use Rattle.sweep.specs.Sweep.{forwards}
-use Rattle.sweep.proofs.Sweeping.{forth_turn}
 use Rattle.sweep.proofs.settle.Given as goal
 
 pub record Inv (n : ℕ) (choice₀ choice : List ℕ) (i b : ℕ) : Type 0 where
