@@ -27,6 +27,10 @@ const MARK_OF_2: [u8; 12] = *b"\x01\x02\0\0\x05\0\0\0\x0f\0\0\0";
 // N5 M5@16, which runs beyond the store.
 const BEYOND: [u8; 24] = *b"\0\0\0\0\x05\0\0\0\0\0\0\0\x01\0\0\0\x05\0\0\0\x10\0\0\0";
 
+fn say(out: &impl Print, text: &[u8]) -> io::Result<()> {
+    out.write_all(text)
+}
+
 // One case, beside a store.
 fn shown<'a>(
     out: &impl Print,
@@ -35,13 +39,13 @@ fn shown<'a>(
     store: &'a [u8],
     k: u32,
 ) -> io::Result<()> {
-    out.write_all(b" [")?;
-    out.write_all(show::show(list, block, store, k))?;
-    out.write_all(b"]\n")
+    say(out, b" [")?;
+    say(out, show::show(list, block, store, k))?;
+    say(out, b"]\n")
 }
 
 fn case(out: &impl Print, name: &[u8], list: &[u8], block: &[u8], k: u32) -> io::Result<()> {
-    out.write_all(name)?;
+    say(out, name)?;
     shown(out, list, block, &STORE, k)
 }
 
