@@ -9,12 +9,11 @@ use Rattle.format.specs.Record.{encode}
 use Rattle.format.specs.Meaning.{stored, block_of}
 use Rattle.format.proofs.Encoding.{length_encode}
 use Rattle.area.specs.Area.{over}
-use Rattle.area.proofs.Filling.{front, front_room}
+use Rattle.area.proofs.Filling.{front}
 use Rattle.price.specs.Price.{news, matches, cost}
 use Rattle.price.proofs.Bounds.{entries}
 use Rattle.writer.specs.Write.{list_in}
 use Rattle.writer.proofs.Writing.{list_ready, block_ready, written_records, entries_most, block_length, block_most}
-use Rattle.std.proofs.Common.{rules}
 use Rattle.writer.proofs.finish.Goals as goal
 
 pub write_list-n-requires : goal.write_list-n-requires

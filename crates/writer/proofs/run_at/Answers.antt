@@ -1,9 +1,9 @@
-use Prim.Native.Nat.{◌+◌, ◌-◌}
+-- The goals of `run_at` that are left: the size fits, and the invariant goes on with one record more. Assumes nothing.
+use Prim.Native.Nat.{◌+◌}
 use native.Mathlib.Omega.{arith}
 use Rattle.format.specs.declared.Record.TheVariants.{New}
 use Rattle.writer.specs.Write.{RunOf}
-use Rattle.writer.proofs.Writing.{run_kept, run_stored, run_more}
-use Rattle.std.proofs.Common.{rules}
+use Rattle.writer.proofs.Writing.{run_stored, run_more}
 use Rattle.writer.proofs.run_at.Goals as goal
 use Rattle.writer.proofs.run_at.Goals.{After-size_of-size-in-loop-k}
 

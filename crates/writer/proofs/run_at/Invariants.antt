@@ -1,9 +1,7 @@
 -- `writer::run_at` meets its contract. The invariant: one new record stands for those so far. The measure is the number of records left. Assumes nothing.
-use Prim.Native.Nat.{◌+◌, ◌-◌}
-use native.Mathlib.Omega.{arith}
+use Prim.Native.Nat.{◌-◌}
 use Rattle.format.specs.declared.Record.TheVariants.{New}
 use Rattle.writer.specs.Write.{RunOf}
-use Rattle.writer.proofs.Writing.{run_kept, run_stored, run_more}
 use Rattle.writer.proofs.run_at.Given as goal
 
 abbrev pub invariant-loop-k : goal.invariant-loop-k

@@ -1,12 +1,9 @@
-use Prim.Native.Nat.{◌-◌, ◌/◌, ◌≤◌}
+-- The goals of `write_list` that are left: the invariant goes on with one entry more, and what stands at the end. Assumes nothing.
+use Prim.Native.Nat.{◌/◌}
 use native.Mathlib.Omega.{arith}
 use lib.ListN.{length}
-use Rattle.format.specs.Record.{records_of}
-use Rattle.choice.specs.Choice.{chosen, bits_of}
-use Rattle.emit.proofs.Listing.{Listing, listing_start, listing_room, listing_size, listing_next, listing_last, listing_end}
-use Rattle.writer.specs.Write.{chosen_from}
-use Rattle.writer.proofs.Writing.{chosen_from_all, chosen_from_none}
-use Rattle.std.proofs.Common.{rules}
+use Rattle.emit.proofs.Listing.{listing_next, listing_end}
+use Rattle.writer.proofs.Writing.{chosen_from_none}
 use Rattle.writer.proofs.write_list.Goals as goal
 
 pub loop-i-preserved : goal.loop-i-preserved

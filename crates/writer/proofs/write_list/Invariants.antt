@@ -1,13 +1,11 @@
 -- `writer::write_list` meets its contract. The invariant: `Listing` says what stands in the area before record i, and what is to come. The measure is
 -- the number of records left. Assumes nothing.
 use Prim.Native.Nat.{◌-◌, ◌/◌, ◌≤◌}
-use native.Mathlib.Omega.{arith}
 use lib.ListN.{length}
 use Rattle.format.specs.Record.{records_of}
 use Rattle.choice.specs.Choice.{chosen, bits_of}
-use Rattle.emit.proofs.Listing.{Listing, listing_start, listing_room, listing_size, listing_next, listing_last, listing_end}
+use Rattle.emit.proofs.Listing.{Listing}
 use Rattle.writer.specs.Write.{chosen_from}
-use Rattle.writer.proofs.Writing.{chosen_from_all, chosen_from_none}
 use Rattle.writer.proofs.write_list.Given as goal
 
 abbrev pub invariant-loop-i : goal.invariant-loop-i

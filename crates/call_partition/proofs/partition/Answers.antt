@@ -1,0 +1,27 @@
+-- `call_partition::partition` meets its contract: refused as the checks say, or the least choice and what is written of it. Assumes nothing.
+use mathlib.Core.Path.{sym, ◌∙◌}
+use lib.ListN.{length}
+use Rattle.format.specs.Record.{records_of}
+use Rattle.price.specs.Price.{rates_of}
+use Rattle.choice.proofs.Least.{least_fits}
+use Rattle.admit.proofs.Admitting.{Admitted, admitted_of_through}
+use Rattle.writer.proofs.Deciding.{finishable, decided}
+use Rattle.std.proofs.Common.{rules}
+use Rattle.call_partition.proofs.partition.Goals as goal
+use Rattle.call_partition.proofs.partition.Goals.{In-Through}
+
+-- all checks have passed
+passed : (c : In-Through) → let g = c.args in
+    Admitted g.price g.list.now g.version.now g.store.now (length g.choice.now) (length g.list_area.now) (length g.block_area.now)
+passed c = admitted_of_through _ _ _ _ _ _ _ c.in-Through._totals (sym c.admit-w.ensures ∙ c.in-Through.is)
+
+pub finish-requires : goal.finish-requires
+finish-requires c = finishable (passed (goal.at.finish-requires c).In-Through).sound c.rates_of-rates.ensures (search rules)
+
+pub returns : goal.returns
+returns c =
+    let g = c.args in
+    let rates = c.rates_of-rates.ensures in
+    let chosen = rw rates at c.least_choice.ensures in
+    let d = decided (passed (goal.at.returns c).In-Through).fine (least_fits (rates_of g.price) (records_of g.list.now)) chosen.area (rw rates at c.finish.ensures) in
+    record { answered = d.answered; areas_after = d.areas_after }
