@@ -1,16 +1,12 @@
 -- `call_pass::pass` meets its contract: refused as the checks say, or the choice that the machine leaves and what is written of it. Assumes nothing.
 use native.Mathlib.Omega.{arith}
-use mathlib.Core.Path.{refl, sym, ◌∙◌}
+use mathlib.Core.Path.{sym, ◌∙◌}
 use lib.ListN.{length}
 use Rattle.format.specs.Record.{records_of}
 use Rattle.price.specs.Price.{rates_of}
-use Rattle.walk.proofs.Telling.{stop_of_refusal}
-use Rattle.area.specs.Area.{areas}
-use Rattle.admit.specs.Admit.{partition_ruling}
 use Rattle.admit.proofs.Admitting.{Admitted, admitted_of_through}
-use Rattle.writer.proofs.Deciding.{decided_refused, finishable, decided}
+use Rattle.writer.proofs.Deciding.{finishable, decided}
 use Rattle.linear.proofs.Theorems.{pass_holds}
-use Rattle.call_pass.specs.Pass.{pass_choice_of, pass_looks_of}
 use Rattle.std.proofs.Common.{rules}
 use Rattle.call_pass.proofs.pass.Goals as goal
 use Rattle.call_pass.proofs.pass.Goals.{In-Through}
