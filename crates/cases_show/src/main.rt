@@ -2,6 +2,8 @@
 // expected is worked out by hand from section 4.5 of docs/SPECIFICATION.md.
 #![tactic(auto)]
 
+use std::io;
+
 const STORE: [u8; 20] = *b"ABCDEFGHIJKLMNOPQRST";
 
 // N5 M5@15 N3: with the stored block abcdefgh it is abcdePQRSTfgh.
@@ -25,47 +27,53 @@ const MARK_OF_2: [u8; 12] = *b"\x01\x02\0\0\x05\0\0\0\x0f\0\0\0";
 // N5 M5@16, which runs beyond the store.
 const BEYOND: [u8; 24] = *b"\0\0\0\0\x05\0\0\0\0\0\0\0\x01\0\0\0\x05\0\0\0\x10\0\0\0";
 
-fn say(text: &[u8]) {
-    io::write_all(libc::STDOUT_FILENO, text);
+fn say(out: &impl Print, text: &[u8]) -> io::Result<()> {
+    out.write_all(text)
 }
 
 // One case, beside a store.
-fn shown<'a>(list: &[u8], block: &'a [u8], store: &'a [u8], k: u32) {
-    say(b" [");
-    say(show::show(list, block, store, k));
-    say(b"]\n");
+fn shown<'a>(
+    out: &impl Print,
+    list: &[u8],
+    block: &'a [u8],
+    store: &'a [u8],
+    k: u32,
+) -> io::Result<()> {
+    say(out, b" [")?;
+    say(out, show::show(list, block, store, k))?;
+    say(out, b"]\n")
 }
 
-fn case(name: &[u8], list: &[u8], block: &[u8], k: u32) {
-    say(name);
-    shown(list, block, &STORE, k);
+fn case(out: &impl Print, name: &[u8], list: &[u8], block: &[u8], k: u32) -> io::Result<()> {
+    say(out, name)?;
+    shown(out, list, block, &STORE, k)
 }
 
 // The parts that records stand for.
-fn parts() {
-    case(b"a new record", &LIST, b"abcdefgh", 0);
-    case(b"a match", &LIST, b"abcdefgh", 1);
-    case(b"a later new record", &LIST, b"abcdefgh", 2);
-    case(b"a match at 0", &MATCHES, b"a", 0);
-    case(b"a later match", &MATCHES, b"a", 2);
-    case(b"a held match at 0", &HELD, b"a", 0);
-    case(b"a new record between held matches", &HELD, b"a", 1);
-    case(b"a later held match", &HELD, b"a", 2);
+fn parts(out: &impl Print) -> io::Result<()> {
+    case(out, b"a new record", &LIST, b"abcdefgh", 0)?;
+    case(out, b"a match", &LIST, b"abcdefgh", 1)?;
+    case(out, b"a later new record", &LIST, b"abcdefgh", 2)?;
+    case(out, b"a match at 0", &MATCHES, b"a", 0)?;
+    case(out, b"a later match", &MATCHES, b"a", 2)?;
+    case(out, b"a held match at 0", &HELD, b"a", 0)?;
+    case(out, b"a new record between held matches", &HELD, b"a", 1)?;
+    case(out, b"a later held match", &HELD, b"a", 2)
 }
 
 // An empty part where check refuses.
-fn empty_parts() {
-    case(b"no record 3", &LIST, b"abcdefgh", 3);
-    case(b"a block one byte short", &LIST, b"abcdefg", 0);
-    case(b"a block one byte longer", &LIST, b"abcdefghi", 0);
-    case(b"record 1 beyond the store", &BEYOND, b"abcde", 0);
-    case(b"a mark on a new record", &MARKED_NEW, b"abcde", 1);
-    case(b"a byte 1 of 2", &MARK_OF_2, b"", 0);
-    case(b"a list of 35 bytes", &LIST[0..35], b"abcdefgh", 0);
-    case(b"no records", b"", b"", 0);
+fn empty_parts(out: &impl Print) -> io::Result<()> {
+    case(out, b"no record 3", &LIST, b"abcdefgh", 3)?;
+    case(out, b"a block one byte short", &LIST, b"abcdefg", 0)?;
+    case(out, b"a block one byte longer", &LIST, b"abcdefghi", 0)?;
+    case(out, b"record 1 beyond the store", &BEYOND, b"abcde", 0)?;
+    case(out, b"a mark on a new record", &MARKED_NEW, b"abcde", 1)?;
+    case(out, b"a byte 1 of 2", &MARK_OF_2, b"", 0)?;
+    case(out, b"a list of 35 bytes", &LIST[0..35], b"abcdefgh", 0)?;
+    case(out, b"no records", b"", b"", 0)
 }
 
-fn main() {
-    parts();
-    empty_parts();
+fn main(rt: HostRuntime) -> io::Result<()> {
+    parts(&rt)?;
+    empty_parts(&rt)
 }

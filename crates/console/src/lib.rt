@@ -4,11 +4,14 @@
 // The text of a run is made by the crate `program`; only the reading and writing are here.
 #![tactic(auto)]
 
-ghost use Rattle.std.specs.Prelude.{◌+◌, ◌*◌, ◌≤◌, ◌≡◌, length};
+ghost use Rattle.std.specs.Prelude.{◌+◌, ◌*◌, ◌≤◌, ◌≡◌, false, length, take, IfSome, OnOk};
+ghost use Rattle.std.specs.Io.KnownBytes.{Appends, Consumes};
 ghost use Rattle.io.specs.Counts.{IsPrefixLen};
 ghost use Rattle.console.specs.Price.{price_in};
 
 use price::Price;
+use std::rt::Files;
+use std::{fs, io, str};
 
 // What was read of a file: whether it is bad, and how many bytes are at the front of its buffer.
 #[derive(Clone, Copy)]
@@ -24,24 +27,51 @@ pub enum PriceFile {
     Bad,
 }
 
+// Opens a file to be read. A name that is not text names no file.
+fn open<R: Files>(files: &R, name: &[u8]) -> Option<R::File> {
+    let path = str::from_utf8(name).ok()?;
+    fs::open(files, path).ok()
+}
+
+// Reads until the buffer is full, the input ends or a read fails, and gives how many bytes are at the front of the buffer.
+fn read_front<R: io::Read>(input: &mut R, buffer: &mut [u8]) -> usize
+    ensures count { IsPrefixLen result buffer.new }
+    ensures bytes { Consumes (R.remaining input.old) (R.remaining input.new) (take result buffer.new) }
+{
+    let mut done = 0;
+    while done < buffer.len() {
+        match input.read(&mut buffer[done..]) {
+            Ok(0) | Err(_) => break,
+            Ok(n) => done += n,
+        }
+    }
+    done
+}
+
+// Reads a whole input into a buffer.
+fn read_whole<R: io::Read>(input: &mut R, buffer: &mut [u8]) -> Read
+    ensures count { IsPrefixLen result.bytes buffer.new }
+    ensures whole { result.bad ≡ false → IfSome (R.remaining input.old) (λ held. take result.bytes buffer.new ≡ held) }
+{
+    let bytes = read_front(input, buffer);
+    let mut more = [0u8; 1];
+    let bad = match input.read(&mut more) {
+        Ok(n) => n != 0,
+        Err(_) => true,
+    };
+    Read { bad, bytes }
+}
+
 // Reads a whole file into a buffer.
-pub fn read_file(name: &[u8], buffer: &mut [u8]) -> Read
+pub fn read_file<R: Files>(files: &R, name: &[u8], buffer: &mut [u8]) -> Read
     ensures { IsPrefixLen result.bytes buffer.new }
 {
-    let fd = os::open_read(name);
-    if fd < 0 {
-        return Read {
+    match open(files, name) {
+        Some(mut file) => read_whole(&mut file, buffer),
+        None => Read {
             bad: true,
             bytes: 0,
-        };
-    }
-    let bytes = io::read_full(fd, buffer);
-    let mut more = [0u8; 1];
-    let rest = libc::read(fd, &mut more);
-    libc::close(fd);
-    Read {
-        bad: rest != 0,
-        bytes,
+        },
     }
 }
 
@@ -74,8 +104,9 @@ pub fn text_area() -> [u8; 262144]
 }
 
 // Writes out the first n bytes of a text.
-pub fn write(text: &[u8], n: usize)
+pub fn write<W: io::Write>(out: &mut W, text: &[u8], n: usize) -> io::Result<()>
     requires { n ≤ length text.now }
+    ensures { OnOk result (Appends (W.contents out.old) (W.contents out.new) (take n text.now)) }
 {
-    io::write_all(libc::STDOUT_FILENO, &text[0..n]);
+    out.write_all(&text[0..n])
 }

@@ -2,16 +2,16 @@
 // on sheet C (clause 10.1 of docs/SPECIFICATION.md).
 #![tactic(auto)]
 
-fn main() {
+fn main(rt: HostRuntime) -> std::io::Result<()> {
     let mut price = io::large_buffer();
     let mut items = io::large_buffer();
     let mut version = io::large_buffer();
     let mut store = io::large_buffer();
     let mut text = console::text_area();
-    let p = console::read_file(b"price", &mut price);
-    let l = console::read_file(b"items", &mut items);
-    let v = console::read_file(b"version", &mut version);
-    let s = console::read_file(b"store", &mut store);
+    let p = console::read_file(&rt, b"price", &mut price);
+    let l = console::read_file(&rt, b"items", &mut items);
+    let v = console::read_file(&rt, b"version", &mut version);
+    let s = console::read_file(&rt, b"store", &mut store);
     let n = program::text_of_run(&price, &items, &version, &store, p, l, v, s, &mut text);
-    console::write(&text, n);
+    console::write(&mut rt.stdout(), &text, n)
 }

@@ -2,7 +2,7 @@
 -- Assumes nothing.
 use Prim.Native.Nat.{ℕ, ◌+◌, ◌/◌, ◌≤◌, ◌<◌}
 use native.Mathlib.Omega.{arith}
-use mathlib.Core.Path.{◌≡◌, refl, sym, ◌∙◌, ap}
+use mathlib.Core.Path.{◌≡◌, refl, sym, ◌∙◌, ap, subst}
 use mathlib.Core.List.{List, [], ◌∷◌, ◌++◌, append-nil}
 use lib.ListN.{length, take, drop, length-append, length-drop}
 use lib.Seq.{length-take-le, take_at, take-take, take-append-le}
@@ -130,7 +130,7 @@ module _ {list block area₀ : List ℕ} {at : ℕ} (ready : ChunkReady list blo
           → Chunked list block area₀ at area' n (i + 1) used' out'
       chunked_next {area'} {out'} {used'} e f g =
           let drawn : part_bytes r used block area ≡ part_bytes r used block st =
-          part_same r used at block area (omega (arith, c.behind, c.filling.within)) (rw (← kept) at inside_r) ∙ ap (part_bytes r used block) kept in
+          part_same r used at block area (omega (arith, c.behind, c.filling.within)) (subst (λ (s : List ℕ). Inside s (r ∷ [])) (sym kept) inside_r) ∙ ap (part_bytes r used block) kept in
           record {
             inside = inside_rest r (records_from list n (i + 1)) st (rw split at c.inside);
             used_is = omega (arith, g, c.used_is, ap stored split, stored_cons r (records_from list n (i + 1)));

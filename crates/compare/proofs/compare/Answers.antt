@@ -1,9 +1,6 @@
 -- `compare::compare` meets its contract: the refusal of the list at fault, the first list's first; no where the origins differ; else whether the stored
 -- blocks are the same. Assumes nothing.
--- the first list is fine
--- and so is the second
 use mathlib.Core.Path.{◌≡◌, sym, ◌∙◌}
-use borrow.Author.Tests.{not-true, not-false}
 use Rattle.format.specs.declared.Ruling.TheVariants.{Fine}
 use Rattle.format.specs.Record.{records_of}
 use Rattle.walk.proofs.Telling.{fine_of_through, stop_of_refusal}
@@ -11,26 +8,22 @@ use Rattle.show.specs.Check.{inputs_ruling}
 use Rattle.compare.proofs.Answering.{BothFine, checked_both, no_of_origins, as_blocks}
 use Rattle.std.proofs.Common.{rules}
 use Rattle.compare.proofs.compare.Goals as goal
-use Rattle.compare.proofs.compare.Goals.{In-Through, In-Through-w-2}
+use Rattle.compare.proofs.compare.Goals.{In-Through-w}
 
-first_fine : (c : In-Through) → let g = c.args in inputs_ruling g.first.now g.first_block.now g.store.now ≡ Fine
-first_fine c =
-    let g = c.args in
-    (fine_of_through (inputs_ruling g.first.now g.first_block.now g.store.now) (records_of g.first.now) c.in-Through._first (sym c.accept-v.ensures ∙ c.in-Through.is)).0
-
-fine : (c : In-Through-w-2) → let g = c.args in BothFine g.first.now g.second.now g.first_block.now g.second_block.now g.store.now
+-- both lists are fine
+fine : (c : In-Through-w) → let g = c.args in BothFine g.first.now g.second.now g.first_block.now g.second_block.now g.store.now
 fine c =
     let g = c.args in
     record {
-      first_fine = first_fine c;
+      first_fine = (fine_of_through (inputs_ruling g.first.now g.first_block.now g.store.now) (records_of g.first.now) c.in-Through._first (sym c.accept-v.ensures ∙ c.in-Through.is)).0;
       second_fine = (fine_of_through (inputs_ruling g.second.now g.second_block.now g.store.now) (records_of g.second.now) c.in-Through-w._second (sym c.accept-w.ensures ∙ c.in-Through-w.is)).0;
     }
 
 pub same_origins-requires : goal.same_origins-requires
-same_origins-requires c = checked_both (fine (goal.at.same_origins-requires c).In-Through-w-2)
+same_origins-requires c = checked_both (fine (goal.at.same_origins-requires c).In-Through-w)
 
 pub returns-then-same : goal.returns-then-same
-returns-then-same c = c.entries_only-then-same.ensures ∙ sym (as_blocks (fine (goal.at.returns-then-same c).In-Through-w-2) (sym c.same_origins.ensures ∙ not-false _ c.if-not-same_origins.false) (sym c.if-same.true ∙ c.same.ensures))
+returns-then-same c = record { answered = c.entries_only-then-same.ensures ∙ sym (as_blocks (fine (goal.at.returns-then-same c).In-Through-w) (sym c.same_origins.ensures ∙ c.if-not-same_origins.false) (sym c.if-same.true ∙ c.same.ensures)) }
 
 pub returns : goal.returns
-returns c = c.entries_only-2.ensures ∙ sym (as_blocks (fine (goal.at.returns c).In-Through-w-2) (sym c.same_origins.ensures ∙ not-false _ c.if-not-same_origins.false) (sym c.if-same.false ∙ c.same.ensures))
+returns c = record { answered = c.entries_only-2.ensures ∙ sym (as_blocks (fine (goal.at.returns c).In-Through-w) (sym c.same_origins.ensures ∙ c.if-not-same_origins.false) (sym c.if-same.false ∙ c.same.ensures)) }

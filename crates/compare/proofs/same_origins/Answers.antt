@@ -1,6 +1,5 @@
 use native.Mathlib.Omega.{arith}
 use mathlib.Core.Path.{sym, ◌∙◌}
-use borrow.Author.Tests.{not-true, not-false}
 use Rattle.format.specs.Meaning.{whole}
 use Rattle.cursors.specs.Cursor.{remaining}
 use Rattle.cursors.proofs.Cursors.{Turn, turn, turn_less}
@@ -18,13 +17,13 @@ pub returns-then-m-y : goal.returns-then-m-y
 returns-then-m-y c = sym (other_of_more c.loop-x.invariant (omega (arith, c.loop-x-test.true)) (omega (arith, c.if-m-y.true)))
 
 pub returns-then-not-alike : goal.returns-then-not-alike
-returns-then-not-alike c = sym (other_of_piece c.loop-x.invariant (turned (goal.at.returns-then-not-alike c).After-step-s) (sym c.alike.ensures ∙ not-true _ c.if-not-alike.true))
+returns-then-not-alike c = sym (other_of_piece c.loop-x.invariant (turned (goal.at.returns-then-not-alike c).After-step-s) (sym c.alike.ensures ∙ c.if-not-alike.true))
 
 pub loop-x-smaller : goal.loop-x-smaller
 loop-x-smaller c = turn_less (turned (goal.at.loop-x-smaller c).After-step-s)
 
 pub loop-x-preserved : goal.loop-x-preserved
-loop-x-preserved c = so_far_next c.loop-x.invariant (turned (goal.at.loop-x-preserved c).After-step-s) (sym c.alike.ensures ∙ not-false _ c.if-not-alike.false)
+loop-x-preserved c = so_far_next c.loop-x.invariant (turned (goal.at.loop-x-preserved c).After-step-s) (sym c.alike.ensures ∙ c.if-not-alike.false)
 
 pub returns : goal.returns
 returns c = same_of_end c.loop-x.invariant (omega (arith, c.loop-x-test.false))

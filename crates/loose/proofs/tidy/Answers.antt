@@ -35,5 +35,8 @@ overflow_cast-bytes c = omega (arith, counted (goal.at.overflow_cast-bytes c).Af
 
 pub returns : goal.returns
 returns c =
-    let w = c in
-    (rw (fine w, ← counted (goal.at.returns c).After-write_tidy-bytes) c.entries_only.ensures, rw (fine w) c.write_tidy-bytes.ensures.area_after)
+    let e = fine (goal.at.returns c).In-Through in
+    record {
+      answered = rw (e, ← counted (goal.at.returns c).After-write_tidy-bytes) c.entries_only.ensures;
+      list_after = rw e c.write_tidy-bytes.ensures.area_after;
+    }

@@ -22,7 +22,7 @@ emit-e-requires c =
     let room = form_room c.requires in
     let g = c.loop-i.invariant.1 in
     let e = stands (goal.at.emit-e-requires c).After-record_at-record in
-    (listing_room room g e, omega (arith, listing_size room g e))
+    record { record_in_bounds = listing_room room g e; record_bound = omega (arith, listing_size room g e) }
 
 pub loop-i-preserved : goal.loop-i-preserved
 loop-i-preserved c =

@@ -22,5 +22,4 @@ put-requires c = omega (arith, room (goal.at.put-requires c).After-part_of-part)
 
 pub loop-i-preserved : goal.loop-i-preserved
 loop-i-preserved c =
-    let p = c in
-    (omega arith, copied_next c.requires c.loop-i.invariant.1 p.before.record-at.ensures (omega arith) (part_is p) c.put.ensures refl c.stored_after-used.ensures)
+    (omega arith, copied_next c.requires c.loop-i.invariant.1 c.record_at-record.ensures (omega arith) (part_is (goal.at.loop-i-preserved c).After-part_of-part) c.put.ensures refl c.stored_after-used.ensures)

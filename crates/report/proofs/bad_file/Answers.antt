@@ -1,7 +1,6 @@
 -- `report::bad_file` meets its contract. Assumes nothing.
 use native.Mathlib.Omega.{arith}
 use Rattle.report.proofs.Composing.{written_append}
-use Rattle.std.proofs.Common.{rules}
 use Rattle.report.proofs.bad_file.Goals as goal
 
 pub returns : goal.returns

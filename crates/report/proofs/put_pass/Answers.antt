@@ -1,8 +1,7 @@
 -- `report::put_pass` meets its contract: the cost, then the looks. Assumes nothing.
 use native.Mathlib.Omega.{arith}
 use Rattle.report.proofs.Composing.{written_append}
-use Rattle.std.proofs.Common.{rules}
 use Rattle.report.proofs.put_pass.Goals as goal
 
 pub returns : goal.returns
-returns c = written_append (omega arith) c.put_field-next.ensures.0 c.put_last.ensures.0
+returns c = written_append (omega arith) c.put_field-next.ensures.written c.put_last.ensures.written

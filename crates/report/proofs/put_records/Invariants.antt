@@ -1,11 +1,10 @@
 -- `report::put_records` meets its contract. The invariant: `Listed` says what is written before record i and what is to come, each line of at most
 -- 44 bytes. The measure is the number of records left. Assumes nothing.
-use Prim.Native.Nat.{ℕ, ◌*◌, ◌-◌, ◌/◌, ◌≤◌}
-use native.Mathlib.Omega.{arith}
-use mathlib.Core.Path.{◌≡◌, refl}
+use Prim.Native.Nat.{ℕ, ◌*◌, ◌-◌, ◌≤◌}
+use mathlib.Core.Path.{◌≡◌}
 use mathlib.Core.List.{List}
 use lib.ListN.{length}
-use Rattle.report.proofs.Composing.{Listed, listed_start, listed_next, listed_end}
+use Rattle.report.proofs.Composing.{Listed}
 use Rattle.report.proofs.put_records.Given as goal
 
 pub record Inv (area₀ list : List ℕ) (n : ℕ) (area : List ℕ) (at i : ℕ) : Type 0 where

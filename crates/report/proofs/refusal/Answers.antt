@@ -1,8 +1,7 @@
 -- `report::refusal` meets its contract: the number, then the place. Assumes nothing.
 use native.Mathlib.Omega.{arith}
 use Rattle.report.proofs.Composing.{written_append}
-use Rattle.std.proofs.Common.{rules}
 use Rattle.report.proofs.refusal.Goals as goal
 
 pub returns : goal.returns
-returns c = rw (← c.??number_of_lem.ensures, ← c.wide.ensures) (written_append (omega arith) c.put_field-next.ensures.0 c.put_last.ensures.0)
+returns c = rw (← c.number_of.ensures, ← c.wide.ensures) (written_append (omega arith) c.put_field-next.ensures.written c.put_last.ensures.written)

@@ -11,7 +11,7 @@ put_part-requires c = chunked_part c.requires c.loop-i.invariant.1 c.record_at-r
 pub loop-i-preserved : goal.loop-i-preserved
 loop-i-preserved c =
     let l = c.loop-i in
-    let size = c.index-out.ensures.0 ∙ c.??type_size.ensures in
+    let size = c.index-out.ensures.0 ∙ c.size_of.ensures in
     (omega arith, chunked_next c.requires l.invariant.1 c.record_at-record.ensures (omega arith) c.put_part.ensures (ap (λ (k : ℕ). l.out + k) size) c.stored_after-used.ensures)
 
 pub returns : goal.returns

@@ -25,5 +25,5 @@ fill_chunk-at-requires c =
 pub loop-i-preserved : goal.loop-i-preserved
 loop-i-preserved c =
     let l = c.loop-i in
-    let p = c in
+    let p = (goal.at.loop-i-preserved c).After-index-in-loop-i in
     (omega arith, built_next c.requires l.invariant.1 c.index_row_at-row.ensures (omega arith) (list_long p) (block_long p) c.fill_chunk-at.ensures (omega arith) (omega arith))
