@@ -1,13 +1,11 @@
-use Prim.Native.Nat.{◌-◌, ◌/◌, ◌≤◌}
+-- The goals of `check_choice` that are left: the ways out, and the invariant at the start and after one byte more. Assumes nothing.
+use Prim.Native.Nat.{◌/◌}
 use native.Mathlib.Omega.{arith}
-use mathlib.Core.Path.{◌≡◌, sym, ◌∙◌, ap}
-use lib.ListN.{length, drop, get_or}
-use borrow.Author.Tests.{not-true, not-false}
+use mathlib.Core.Path.{sym, ◌∙◌, ap}
+use lib.ListN.{length, get_or}
 use Rattle.format.specs.declared.Record.{Record}
-use Rattle.format.specs.Record.{records_from}
-use Rattle.commit.specs.Commit.{may_have, bytes_ruling, choice_ruling}
-use Rattle.commit.proofs.Choosing.{choice_length, choice_bytes, bytes_stop, bytes_on, bytes_none}
-use Rattle.std.proofs.Common.{rules}
+use Rattle.commit.specs.Commit.{may_have}
+use Rattle.commit.proofs.Choosing.{choice_length, choice_bytes, bytes_stop, bytes_on}
 use Rattle.commit.proofs.check_choice.Goals as goal
 
 pub returns-then-choice-n : goal.returns-then-choice-n
@@ -26,7 +24,7 @@ returns-then-not-may_have c =
     let l = c.loop-i in
     let is = c.may_have.ensures ∙ ap (λ (r : Record). may_have r (get_or g.choice.now l.i 0)) c.record_at.ensures in
     c.stop-then-not-may_have.ensures
-    ∙ sym (l.invariant.2 ∙ bytes_stop g.list.now g.choice.now (length g.list.now / 12) l.i (omega arith) (omega (arith, l.invariant.1)) (sym is ∙ not-true _ c.if-not-may_have.true))
+    ∙ sym (l.invariant.2 ∙ bytes_stop g.list.now g.choice.now (length g.list.now / 12) l.i (omega arith) (omega (arith, l.invariant.1)) (sym is ∙ c.if-not-may_have.true))
 
 pub loop-i-preserved : goal.loop-i-preserved
 loop-i-preserved c =
@@ -35,5 +33,5 @@ loop-i-preserved c =
     let is = c.may_have.ensures ∙ ap (λ (r : Record). may_have r (get_or g.choice.now l.i 0)) c.record_at.ensures in (
       omega arith,
       l.invariant.1,
-      l.invariant.2 ∙ bytes_on g.list.now g.choice.now (length g.list.now / 12) l.i (omega arith) (omega (arith, l.invariant.1)) (sym is ∙ not-false _ c.if-not-may_have.false),
+      l.invariant.2 ∙ bytes_on g.list.now g.choice.now (length g.list.now / 12) l.i (omega arith) (omega (arith, l.invariant.1)) (sym is ∙ c.if-not-may_have.false),
     )

@@ -1,14 +1,10 @@
 -- `commit::check_choice` meets its contract. The invariant: there is a byte for each record, and the ruling on all of them is the ruling on those from
 -- record i on. The measure is the number of records left. Assumes nothing.
-use Prim.Native.Nat.{◌-◌, ◌/◌, ◌≤◌}
-use native.Mathlib.Omega.{arith}
-use mathlib.Core.Path.{◌≡◌, sym, ◌∙◌, ap}
-use lib.ListN.{length, drop, get_or}
-use borrow.Author.Tests.{not-true, not-false}
-use Rattle.format.specs.declared.Record.{Record}
+use Prim.Native.Nat.{◌-◌, ◌≤◌}
+use mathlib.Core.Path.{◌≡◌}
+use lib.ListN.{length, drop}
 use Rattle.format.specs.Record.{records_from}
-use Rattle.commit.specs.Commit.{may_have, bytes_ruling, choice_ruling}
-use Rattle.commit.proofs.Choosing.{choice_length, choice_bytes, bytes_stop, bytes_on, bytes_none}
+use Rattle.commit.specs.Commit.{bytes_ruling, choice_ruling}
 use Rattle.commit.proofs.check_choice.Given as goal
 
 abbrev pub invariant-loop-i : goal.invariant-loop-i

@@ -1,12 +1,7 @@
 -- `estimate::count` meets its contract. The invariant: `Counting` says what is counted before record i, and what is to come. The measure is the number
 -- of records left. Assumes nothing.
-use Prim.Native.Nat.{◌-◌, ◌/◌, ◌≤◌}
-use native.Mathlib.Omega.{arith}
-use mathlib.Core.Path.{◌≡◌, ◌∙◌, ap}
-use lib.ListN.{length}
-use Rattle.format.specs.Record.{row_at, record_of}
-use Rattle.choice.specs.Choice.{bit_at, chosen_record}
-use Rattle.estimate.proofs.Counting.{Counting, counting_start, counting_next, counting_end, entries_most, stored_within}
+use Prim.Native.Nat.{◌-◌, ◌≤◌}
+use Rattle.estimate.proofs.Counting.{Counting}
 use Rattle.estimate.proofs.count.Given as goal
 
 abbrev pub invariant-loop-i : goal.invariant-loop-i
