@@ -1,11 +1,11 @@
 -- What chunks that are accepted have: each can be rebuilt behind those before it, and their lengths, which are all that the checks see, add up to the volume's.
 -- One chunk more is accepted where it is accepted behind the volume so far.
 -- Assumes nothing.
-use Prim.Native.Nat.{ℕ, ◌+◌, ◌*◌, ◌/◌, ◌%◌, ◌≤◌}
+use Prim.Native.Nat.{ℕ, ◌+◌, ◌/◌, ◌%◌, ◌≤◌}
 use native.Mathlib.Omega.{arith}
 use native.Mathlib.Nat.{div-add-mod}
 use mathlib.Core.Path.{◌≡◌, refl, sym, ◌∙◌, ap}
-use mathlib.Core.Bool.{Bool, true, false, ◌&&◌}
+use mathlib.Core.Bool.{Bool, true, ◌&&◌}
 use mathlib.Core.List.{List, [], ◌∷◌, ◌++◌}
 use lib.Dec.{leb, eqb}
 use lib.ListN.{length, length-append}
@@ -19,19 +19,19 @@ use Rattle.format.specs.declared.Ruling.TheVariants.{Fine, Stop}
 use Rattle.format.specs.Limits.{volume_most, index_most}
 use Rattle.format.specs.Refusal.{need, ◌then◌}
 use Rattle.format.specs.Record.{records_of, rows_of, list_fits, encode}
-use Rattle.format.specs.Meaning.{whole, stored, rebuilt}
+use Rattle.format.specs.Meaning.{whole, stored}
 use Rattle.format.specs.WellFormed.{Inside, Readable}
-use Rattle.format.proofs.Rulings.{stop_fine, fine_of_then, then_of_fine, true_of_need, both_of_and, and_of_both}
+use Rattle.format.proofs.Rulings.{stop_fine, fine_of_then, true_of_need, both_of_and}
 use Rattle.format.proofs.Encoding.{records_encode, fits_encode}
 use Rattle.format.proofs.Rebuilding.{length_rebuilt}
 use Rattle.walk.specs.declared.Scope.TheVariants as scope
-use Rattle.walk.specs.Checks.{four, five, six, fifteen, sixteen, checks, walk_ruling, front}
+use Rattle.walk.specs.Checks.{checks, front}
 use Rattle.walk.proofs.Accepted.{Each, each_of_fine, inside_of_seven, seven_of_fifteen, whole_of_sixteen}
 use Rattle.walk.proofs.Encoded.{walk_chunk}
 use Rattle.show.proofs.Accepting.{read_fine, parts_of_read}
-use Rattle.volume.specs.Volume.{index_rows_of, lists_length, blocks_length, Chunk, chunk, chunks_of, chunk_bytes, volume, volume_of, index_bytes}
+use Rattle.volume.specs.Volume.{index_rows_of, lists_length, blocks_length, Chunk, chunk, chunks_of, chunk_bytes, volume, volume_of}
 use Rattle.volume.specs.Filling.{Sound}
-use Rattle.volume.proofs.Adding.{Fitting, fitting_added, chunks_added}
+use Rattle.volume.proofs.Adding.{Fitting}
 use Rattle.rebuild_volume.specs.RebuildVolume.{index_fits, chunk_ruling, placed, whole_of, wholes, chunks_ruling, volume_ruling, volume_answer, volume_area, VolumeRebuilt}
 
 -- ---- a chunk

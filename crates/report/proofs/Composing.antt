@@ -4,18 +4,12 @@ use Prim.Native.Nat.{ℕ, ◌+◌, ◌/◌, ◌≤◌, ◌<◌}
 use native.Mathlib.Omega.{arith}
 use mathlib.Core.Path.{◌≡◌, refl, sym, ◌∙◌, ap}
 use mathlib.Core.List.{List, [], ◌∷◌, ◌++◌, append_assoc, append-nil}
-use lib.ListN.{length, take, drop, length-append}
-use lib.Seq.{length-take-le}
+use lib.ListN.{length, length-append}
 use Rattle.format.specs.declared.Record.{Record}
 use Rattle.format.specs.Record.{row_at, record_of, records_of, records_from}
 use Rattle.format.proofs.Rows.{records_from_next, records_from_none, records_from_all}
 use Rattle.area.proofs.Pasting.{pasted_none, pasted_append}
 use Rattle.report.specs.Text.{record_text, records_text, Written}
-
--- in an area that keeps its length, a text ends within it
-pub written_within : {at r : ℕ} {s area after : List ℕ} → Written at s area r after → at ≤ length area → length after ≡ length area → r ≤ length after
-written_within {at} {r} {s} {area} {after} w h same =
-    omega (arith, w.place, same, ap length w.area_after ∙ length-append (take at area ++ s) (drop (at + length s) area), length-append (take at area) s, length-take-le at area h)
 
 pub written_append : {at r r' : ℕ} {s t area mid after : List ℕ} → at ≤ length area → Written at s area r mid → Written r t mid r' after → Written at (s ++ t) area r' after
 written_append {at} {r} {r'} {s} {t} {area} {mid} {after} h w x =

@@ -1,12 +1,10 @@
 -- `compare::compare` meets its contract: the refusal of the list at fault, the first list's first; no where the origins differ; else whether the stored
 -- blocks are the same. Assumes nothing.
-use mathlib.Core.Path.{◌≡◌, sym, ◌∙◌}
-use Rattle.format.specs.declared.Ruling.TheVariants.{Fine}
+use mathlib.Core.Path.{sym, ◌∙◌}
 use Rattle.format.specs.Record.{records_of}
-use Rattle.walk.proofs.Telling.{fine_of_through, stop_of_refusal}
+use Rattle.walk.proofs.Telling.{fine_of_through}
 use Rattle.show.specs.Check.{inputs_ruling}
-use Rattle.compare.proofs.Answering.{BothFine, checked_both, no_of_origins, as_blocks}
-use Rattle.std.proofs.Common.{rules}
+use Rattle.compare.proofs.Answering.{BothFine, checked_both, as_blocks}
 use Rattle.compare.proofs.compare.Goals as goal
 use Rattle.compare.proofs.compare.Goals.{In-Through-w}
 

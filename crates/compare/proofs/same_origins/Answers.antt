@@ -1,10 +1,7 @@
 use native.Mathlib.Omega.{arith}
 use mathlib.Core.Path.{sym, ◌∙◌}
-use Rattle.format.specs.Meaning.{whole}
-use Rattle.cursors.specs.Cursor.{remaining}
 use Rattle.cursors.proofs.Cursors.{Turn, turn, turn_less}
-use Rattle.compare.proofs.Comparing.{SoFar, so_far_front, ready, other_of_more, same_of_end, other_of_piece, so_far_next}
-use Rattle.std.proofs.Common.{rules}
+use Rattle.compare.proofs.Comparing.{ready, other_of_more, same_of_end, other_of_piece, so_far_next}
 use Rattle.compare.proofs.same_origins.Goals as goal
 use Rattle.compare.proofs.same_origins.Goals.{After-step-s}
 

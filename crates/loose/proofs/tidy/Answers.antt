@@ -9,10 +9,9 @@ use Rattle.format.specs.declared.Ruling.TheVariants.{Fine}
 use Rattle.format.specs.Record.{records_of}
 use Rattle.format.proofs.Encoding.{length_encode}
 use Rattle.join.proofs.Joining.{length_tidy}
-use Rattle.walk.proofs.Telling.{fine_of_through, stop_of_refusal}
+use Rattle.walk.proofs.Telling.{fine_of_through}
 use Rattle.loose.specs.Loose.{tidy_ruling, tidy_form}
 use Rattle.loose.proofs.Accepting.{Accepts, accepts_of_fine, ready_of_accepts}
-use Rattle.std.proofs.Common.{rules}
 use Rattle.loose.proofs.tidy.Goals as goal
 use Rattle.loose.proofs.tidy.Goals.{After-write_tidy-bytes, In-Through}
 

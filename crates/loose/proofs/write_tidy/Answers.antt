@@ -1,12 +1,11 @@
-use Prim.Native.Nat.{◌+◌, ◌-◌, ◌/◌, ◌≤◌}
+use Prim.Native.Nat.{◌+◌, ◌/◌}
 use native.Mathlib.Omega.{arith}
 use lib.ListN.{length}
-use Rattle.format.specs.Record.{records_of, records_from}
-use Rattle.format.proofs.Rows.{records_from_next, records_from_none, records_from_all}
+use Rattle.format.specs.Record.{records_from}
+use Rattle.format.proofs.Rows.{records_from_next, records_from_none}
 use Rattle.emit.specs.Emit.{Entry}
-use Rattle.emit.proofs.Listing.{Listing, entry_one, listing_start, listing_room, listing_size, listing_next, listing_last, listing_end}
+use Rattle.emit.proofs.Listing.{entry_one, listing_room, listing_size, listing_next, listing_last, listing_end}
 use Rattle.loose.proofs.Accepting.{form_room}
-use Rattle.std.proofs.Common.{rules}
 use Rattle.loose.proofs.write_tidy.Goals as goal
 use Rattle.loose.proofs.write_tidy.Goals.{After-record_at-record}
 

@@ -1,8 +1,6 @@
 use native.Mathlib.Omega.{arith}
-use Rattle.format.specs.Meaning.{whole}
-use Rattle.pool.proofs.Taking.{to_come, step_ready, Turned, turned, turned_less}
-use Rattle.pool.proofs.Counting.{Counting, counting_start, counting_most, counting_next, counting_end}
-use Rattle.std.proofs.Common.{rules}
+use Rattle.pool.proofs.Taking.{step_ready, Turned, turned, turned_less}
+use Rattle.pool.proofs.Counting.{counting_start, counting_next}
 use Rattle.pool.proofs.count_pooled.Goals as goal
 use Rattle.pool.proofs.count_pooled.Goals.{After-take-t}
 

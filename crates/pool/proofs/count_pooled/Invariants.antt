@@ -1,9 +1,8 @@
 -- `pool::count_pooled` meets its contract. The invariant: `Counting` says what is counted before the two cursors, and what is to come. The measure is the
 -- number of bytes to come. Assumes nothing.
-use native.Mathlib.Omega.{arith}
 use Rattle.format.specs.Meaning.{whole}
-use Rattle.pool.proofs.Taking.{to_come, step_ready, Turned, turned, turned_less}
-use Rattle.pool.proofs.Counting.{Counting, counting_start, counting_most, counting_next, counting_end}
+use Rattle.pool.proofs.Taking.{to_come}
+use Rattle.pool.proofs.Counting.{Counting}
 use Rattle.pool.proofs.count_pooled.Given as goal
 
 abbrev pub invariant-loop-x : goal.invariant-loop-x

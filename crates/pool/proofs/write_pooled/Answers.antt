@@ -1,9 +1,7 @@
 use native.Mathlib.Omega.{arith}
-use Rattle.format.specs.Meaning.{whole}
-use Rattle.emit.proofs.Listing.{listing_room, listing_size, listing_last}
-use Rattle.pool.proofs.Taking.{to_come, to_come_none, step_ready, Turned, turned, turned_less}
-use Rattle.pool.proofs.Writing.{room, Writing, writing_start, writing_next, writing_end}
-use Rattle.std.proofs.Common.{rules}
+use Rattle.emit.proofs.Listing.{listing_room, listing_size}
+use Rattle.pool.proofs.Taking.{Turned, turned, turned_less}
+use Rattle.pool.proofs.Writing.{room, writing_start, writing_next, writing_end}
 use Rattle.pool.proofs.write_pooled.Goals as goal
 use Rattle.pool.proofs.write_pooled.Goals.{After-take-t}
 

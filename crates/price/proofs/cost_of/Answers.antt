@@ -7,7 +7,6 @@ use Rattle.format.specs.Record.{records_of}
 use Rattle.format.proofs.Rows.{length_records_of}
 use Rattle.price.specs.Price.{matches}
 use Rattle.price.proofs.Bounds.{entries}
-use Rattle.std.proofs.Common.{rules}
 use Rattle.price.proofs.cost_of.Goals as goal
 
 pub cost_by-requires : goal.cost_by-requires

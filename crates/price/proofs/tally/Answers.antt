@@ -1,14 +1,13 @@
-use Prim.Native.Nat.{◌+◌, ◌/◌, ◌-◌, ◌≤◌}
+use Prim.Native.Nat.{◌+◌, ◌/◌}
 use native.Mathlib.Omega.{arith}
 use mathlib.Core.Path.{◌≡◌, ◌∙◌, ap}
 use mathlib.Core.List.{[], ◌∷◌}
 use lib.ListN.{length}
 use Rattle.format.specs.declared.Record.{Record}
-use Rattle.format.specs.Record.{row_at, record_of, records_of, records_from}
-use Rattle.format.proofs.Rows.{length_records_of, records_from_all, records_from_next, records_from_none}
+use Rattle.format.specs.Record.{row_at, record_of, records_from}
+use Rattle.format.proofs.Rows.{length_records_of, records_from_next, records_from_none}
 use Rattle.price.specs.Price.{news}
 use Rattle.price.proofs.Bounds.{news_cons}
-use Rattle.std.proofs.Common.{rules}
 use Rattle.price.proofs.tally.Goals as goal
 
 pub loop-i-preserved : goal.loop-i-preserved

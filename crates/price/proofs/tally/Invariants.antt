@@ -1,15 +1,10 @@
 -- `price::tally` meets its contract. The invariant: what is counted and what is to come are the new entries of the list, and no record is counted
 -- twice. The measure is the number of records left. Assumes nothing.
 use Prim.Native.Nat.{◌+◌, ◌/◌, ◌-◌, ◌≤◌}
-use native.Mathlib.Omega.{arith}
-use mathlib.Core.Path.{◌≡◌, ◌∙◌, ap}
-use mathlib.Core.List.{[], ◌∷◌}
+use mathlib.Core.Path.{◌≡◌}
 use lib.ListN.{length}
-use Rattle.format.specs.declared.Record.{Record}
-use Rattle.format.specs.Record.{row_at, record_of, records_of, records_from}
-use Rattle.format.proofs.Rows.{length_records_of, records_from_all, records_from_next, records_from_none}
+use Rattle.format.specs.Record.{records_of, records_from}
 use Rattle.price.specs.Price.{news}
-use Rattle.price.proofs.Bounds.{news_cons}
 use Rattle.price.proofs.tally.Given as goal
 
 abbrev pub invariant-loop-i : goal.invariant-loop-i

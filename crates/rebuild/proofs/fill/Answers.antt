@@ -1,12 +1,11 @@
-use Prim.Native.Nat.{◌+◌, ◌-◌, ◌≤◌}
+use Prim.Native.Nat.{◌+◌, ◌≤◌}
 use native.Mathlib.Omega.{arith}
 use mathlib.Core.Path.{◌≡◌, refl}
 use lib.ListN.{length}
 use Rattle.format.specs.Meaning.{part_of}
 use Rattle.format.proofs.Rebuilding.{bytes_in}
-use Rattle.rebuild.proofs.Copying.{Copied, copied_start, copied_end, copied_part, copied_room, copied_used, copied_next}
+use Rattle.rebuild.proofs.Copying.{copied_room, copied_next}
 use Rattle.show.proofs.Lending.{lent_bytes}
-use Rattle.std.proofs.Common.{rules}
 use Rattle.rebuild.proofs.fill.Goals as goal
 use Rattle.rebuild.proofs.fill.Goals.{After-part_of-part}
 

@@ -1,13 +1,7 @@
 -- `rebuild::fill` meets its contract. The invariant: `Copied` says what stands in the area before record i and what is to come. The measure is the
 -- number of records left. Assumes nothing.
-use Prim.Native.Nat.{◌+◌, ◌-◌, ◌≤◌}
-use native.Mathlib.Omega.{arith}
-use mathlib.Core.Path.{◌≡◌, refl}
-use lib.ListN.{length}
-use Rattle.format.specs.Meaning.{part_of}
-use Rattle.format.proofs.Rebuilding.{bytes_in}
-use Rattle.rebuild.proofs.Copying.{Copied, copied_start, copied_end, copied_part, copied_room, copied_used, copied_next}
-use Rattle.show.proofs.Lending.{lent_bytes}
+use Prim.Native.Nat.{◌-◌, ◌≤◌}
+use Rattle.rebuild.proofs.Copying.{Copied}
 use Rattle.rebuild.proofs.fill.Given as goal
 
 abbrev pub invariant-loop-i : goal.invariant-loop-i

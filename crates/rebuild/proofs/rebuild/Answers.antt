@@ -2,19 +2,13 @@
 -- what check looks at has passed, and the walk's totals are the list's
 use native.Mathlib.Omega.{arith}
 use mathlib.Core.Path.{◌≡◌, sym, ◌∙◌, ap}
-use lib.ListN.{length}
-use borrow.Author.Tests.{le-leb, lt-leb}
-use Rattle.format.specs.declared.Answer.TheVariants.{Accepted}
 use Rattle.format.specs.declared.Ruling.TheVariants.{Fine}
 use Rattle.format.specs.Record.{records_of}
-use Rattle.format.specs.Meaning.{whole}
 use Rattle.walk.specs.declared.Totals.{Totals}
 use Rattle.walk.specs.Walked.{totals}
-use Rattle.walk.proofs.Telling.{fine_of_through, stop_of_refusal}
-use Rattle.format.specs.Refusal.{length_only}
+use Rattle.walk.proofs.Telling.{fine_of_through}
 use Rattle.show.specs.Check.{inputs_ruling}
 use Rattle.show.proofs.Accepting.{readable_of_inputs}
-use Rattle.std.proofs.Common.{rules}
 use Rattle.rebuild.proofs.rebuild.Goals as goal
 use Rattle.rebuild.proofs.rebuild.Goals.{In-Through}
 

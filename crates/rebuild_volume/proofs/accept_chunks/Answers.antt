@@ -1,14 +1,13 @@
-use Prim.Native.Nat.{ℕ, ◌+◌, ◌-◌, ◌≤◌}
+use Prim.Native.Nat.{◌+◌, ◌-◌}
 use native.Mathlib.Omega.{arith}
 use mathlib.Core.Path.{◌≡◌, sym, ◌∙◌, ap}
-use lib.ListN.{length, take, drop}
+use lib.ListN.{take, drop}
 use Rattle.format.specs.declared.Answer.TheVariants.{Refused}
-use Rattle.format.specs.declared.Ruling.TheVariants.{Fine}
 use Rattle.format.specs.Refusal.{refuse}
 use Rattle.format.specs.Record.{records_of}
 use Rattle.walk.specs.declared.Totals.{Totals}
 use Rattle.walk.specs.declared.Walked.{Walked}
-use Rattle.walk.specs.Walked.{totals, refusal_of}
+use Rattle.walk.specs.Walked.{refusal_of}
 use Rattle.walk.proofs.Telling.{fine_of_through, stop_of_stopped}
 use Rattle.volume.specs.Volume.{Chunk, chunk}
 use Rattle.volume.proofs.Cutting.{cut_lists, cut_blocks}

@@ -2,17 +2,14 @@
 use native.Mathlib.Omega.{arith}
 use mathlib.Core.Path.{◌≡◌, sym, ◌∙◌, ap}
 use mathlib.Core.Bool.{true}
-use lib.ListN.{length}
-use borrow.Author.Tests.{not-true, not-false}
 use Rattle.format.specs.declared.Figures.{Figures}
 use Rattle.format.specs.declared.Answer.TheVariants.{Accepted}
 use Rattle.format.specs.declared.Ruling.TheVariants.{Fine}
 use Rattle.format.specs.Refusal.{length_only, figures_in}
-use Rattle.format.proofs.Rulings.{fine_of_accepted, stop_of_refused}
+use Rattle.format.proofs.Rulings.{fine_of_accepted}
 use Rattle.volume.specs.Volume.{chunks_of}
 use Rattle.rebuild_volume.specs.RebuildVolume.{index_fits, wholes, chunks_ruling}
-use Rattle.rebuild_volume.proofs.Passing.{volume_index, index_ready, volume_chunks, volume_length, volume_short, volume_fine, volume_ready}
-use Rattle.std.proofs.Common.{rules}
+use Rattle.rebuild_volume.proofs.Passing.{volume_length, volume_short, volume_fine, volume_ready}
 use Rattle.rebuild_volume.proofs.rebuild_volume.Goals as goal
 use Rattle.rebuild_volume.proofs.rebuild_volume.Goals.{In-Accepted}
 

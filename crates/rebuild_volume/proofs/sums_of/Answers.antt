@@ -1,10 +1,9 @@
-use Prim.Native.Nat.{◌+◌, ◌-◌, ◌*◌, ◌/◌, ◌≤◌}
+use Prim.Native.Nat.{◌/◌}
 use native.Mathlib.Omega.{arith}
-use mathlib.Core.Path.{◌≡◌, sym, ◌∙◌, ap}
+use mathlib.Core.Path.{ap}
 use lib.ListN.{length}
-use Rattle.volume.specs.Volume.{index_row_at, index_rows_of, lists_length, blocks_length}
-use Rattle.volume.proofs.Cutting.{rows_from, rows_all, rows_none, rows_next}
-use Rattle.std.proofs.Common.{rules}
+use Rattle.volume.specs.Volume.{lists_length, blocks_length}
+use Rattle.volume.proofs.Cutting.{rows_next}
 use Rattle.rebuild_volume.proofs.sums_of.Goals as goal
 
 pub loop-i-preserved : goal.loop-i-preserved

@@ -1,11 +1,9 @@
 -- `rebuild_volume::sums_of` meets its contract. The invariant: the sums so far and those of the records left are the index's; each sum stays below 2³² for each
 -- record. The measure is the number of records left. Assumes nothing.
-use Prim.Native.Nat.{◌+◌, ◌-◌, ◌*◌, ◌/◌, ◌≤◌}
-use native.Mathlib.Omega.{arith}
-use mathlib.Core.Path.{◌≡◌, sym, ◌∙◌, ap}
-use lib.ListN.{length}
-use Rattle.volume.specs.Volume.{index_row_at, index_rows_of, lists_length, blocks_length}
-use Rattle.volume.proofs.Cutting.{rows_from, rows_all, rows_none, rows_next}
+use Prim.Native.Nat.{◌+◌, ◌-◌, ◌*◌, ◌≤◌}
+use mathlib.Core.Path.{◌≡◌}
+use Rattle.volume.specs.Volume.{index_rows_of, lists_length, blocks_length}
+use Rattle.volume.proofs.Cutting.{rows_from}
 use Rattle.rebuild_volume.proofs.sums_of.Given as goal
 
 abbrev pub invariant-loop-i : goal.invariant-loop-i

@@ -8,11 +8,10 @@ use Rattle.format.specs.Record.{row_at, record_of, records_of}
 use Rattle.format.specs.Meaning.{stored}
 use Rattle.format.proofs.Rows.{get_d_records_of, length_records_of}
 use Rattle.format.proofs.Rebuilding.{stored_most}
-use Rattle.walk.proofs.Telling.{fine_of_through, stop_of_stopped}
+use Rattle.walk.proofs.Telling.{fine_of_through}
 use Rattle.show.specs.Check.{check_ruling}
 use Rattle.show.proofs.Accepting.{checked_parts}
 use Rattle.show.proofs.Lending.{lies_at}
-use Rattle.std.proofs.Common.{rules}
 use Rattle.show.proofs.show.Goals as goal
 
 pub record_at-record-requires : goal.record_at-record-requires

@@ -1,14 +1,13 @@
-use Prim.Native.Nat.{ℕ, ◌+◌, ◌-◌, ◌≤◌}
+use Prim.Native.Nat.{◌+◌}
 use native.Mathlib.Omega.{arith}
-use mathlib.Core.Path.{◌≡◌, refl, sym, ◌∙◌, ap}
+use mathlib.Core.Path.{◌≡◌, sym, ◌∙◌, ap}
 use mathlib.Core.List.{[], ◌∷◌}
-use lib.ListN.{take, get_or}
+use lib.ListN.{get_or}
 use Rattle.format.specs.declared.Record.{Record}
 use Rattle.format.specs.declared.Record.TheVariants.{New}
 use Rattle.format.specs.Record.{records_of}
 use Rattle.format.specs.Meaning.{stored}
 use Rattle.format.proofs.Rows.{length_records_of, get_d_records_of, stored_take_next, stored_take_most}
-use Rattle.std.proofs.Common.{rules}
 use Rattle.show.proofs.stored_before.Goals as goal
 
 pub record_at-record-requires : goal.record_at-record-requires

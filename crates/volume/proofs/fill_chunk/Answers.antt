@@ -1,8 +1,7 @@
-use Prim.Native.Nat.{ℕ, ◌+◌, ◌-◌, ◌≤◌}
+use Prim.Native.Nat.{ℕ, ◌+◌}
 use native.Mathlib.Omega.{arith}
-use mathlib.Core.Path.{◌≡◌, ◌∙◌, ap}
-use Rattle.volume.proofs.Chunking.{Chunked, chunked_start, chunked_end, chunked_part, chunked_room, chunked_used, chunked_next}
-use Rattle.std.proofs.Common.{rules}
+use mathlib.Core.Path.{◌∙◌, ap}
+use Rattle.volume.proofs.Chunking.{chunked_end, chunked_part, chunked_next}
 use Rattle.volume.proofs.fill_chunk.Goals as goal
 
 pub put_part-requires : goal.put_part-requires

@@ -1,9 +1,7 @@
 -- `volume::fill_chunk` meets its contract. The invariant: `Chunked` says what stands in the area before record i and what is to come. The measure is
 -- the number of records left. Assumes nothing.
-use Prim.Native.Nat.{ℕ, ◌+◌, ◌-◌, ◌≤◌}
-use native.Mathlib.Omega.{arith}
-use mathlib.Core.Path.{◌≡◌, ◌∙◌, ap}
-use Rattle.volume.proofs.Chunking.{Chunked, chunked_start, chunked_end, chunked_part, chunked_room, chunked_used, chunked_next}
+use Prim.Native.Nat.{◌-◌, ◌≤◌}
+use Rattle.volume.proofs.Chunking.{Chunked}
 use Rattle.volume.proofs.fill_chunk.Given as goal
 
 abbrev pub invariant-loop-i : goal.invariant-loop-i

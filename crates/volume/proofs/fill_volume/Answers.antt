@@ -1,10 +1,7 @@
-use Prim.Native.Nat.{◌+◌, ◌-◌, ◌≤◌}
+use Prim.Native.Nat.{◌+◌, ◌-◌}
 use native.Mathlib.Omega.{arith}
 use mathlib.Core.Path.{◌≡◌}
-use lib.ListN.{length}
-use Rattle.volume.proofs.Cutting.{cut_lists, cut_blocks}
-use Rattle.volume.proofs.Building.{Built, built_start, built_ready, built_next, built_end}
-use Rattle.std.proofs.Common.{rules}
+use Rattle.volume.proofs.Building.{built_start, built_ready, built_next}
 use Rattle.volume.proofs.fill_volume.Goals as goal
 use Rattle.volume.proofs.fill_volume.Goals.{After-index-in-loop-i, After-index_row_at-row}
 

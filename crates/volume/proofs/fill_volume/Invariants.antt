@@ -1,11 +1,7 @@
 -- `volume::fill_volume` meets its contract. The invariant: `Built` says what stands in the area before chunk i and what is to come. The measure is the
 -- number of chunks left. Assumes nothing.
-use Prim.Native.Nat.{◌+◌, ◌-◌, ◌≤◌}
-use native.Mathlib.Omega.{arith}
-use mathlib.Core.Path.{◌≡◌}
-use lib.ListN.{length}
-use Rattle.volume.proofs.Cutting.{cut_lists, cut_blocks}
-use Rattle.volume.proofs.Building.{Built, built_start, built_ready, built_next, built_end}
+use Prim.Native.Nat.{◌-◌, ◌≤◌}
+use Rattle.volume.proofs.Building.{Built}
 use Rattle.volume.proofs.fill_volume.Given as goal
 
 abbrev pub invariant-loop-i : goal.invariant-loop-i

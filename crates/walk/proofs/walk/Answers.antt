@@ -1,17 +1,13 @@
-use Prim.Native.Nat.{ℕ, ◌-◌, ◌/◌, ◌≤◌}
+use Prim.Native.Nat.{◌/◌}
 use native.Mathlib.Omega.{arith}
 use mathlib.Core.Path.{◌≡◌, refl, sym, ◌∙◌, ap}
-use mathlib.Core.List.{List}
 use lib.ListN.{length}
 use Rattle.format.specs.declared.Ruling.TheVariants.{Fine}
 use Rattle.format.specs.Record.{row_at}
-use Rattle.walk.specs.declared.Scope.{Scope}
-use Rattle.walk.specs.declared.Seen.{Seen}
 use Rattle.walk.specs.declared.Walked.TheVariants.{Through}
 use Rattle.walk.specs.Checks.{checks, judged, next}
-use Rattle.walk.proofs.Judged.{limit_most, sizes_of_fine}
-use Rattle.walk.proofs.Walking.{SoFar, so_far_front, so_far_next, so_far_stop, so_far_end}
-use Rattle.std.proofs.Common.{rules}
+use Rattle.walk.proofs.Judged.{sizes_of_fine}
+use Rattle.walk.proofs.Walking.{so_far_next, so_far_stop, so_far_end}
 use Rattle.walk.proofs.walk.Goals as goal
 
 pub returns-in-Stop : goal.returns-in-Stop

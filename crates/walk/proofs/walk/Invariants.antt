@@ -1,18 +1,11 @@
 -- `walk::walk` meets its contract. The invariant: before row i, `SoFar` says what the walk still has to rule on and what the totals are, and
 -- the sizes have stayed within the limit. The measure is the number of rows left. Assumes nothing.
-use Prim.Native.Nat.{ℕ, ◌-◌, ◌/◌, ◌≤◌}
-use native.Mathlib.Omega.{arith}
-use mathlib.Core.Path.{◌≡◌, refl, sym, ◌∙◌, ap}
+use Prim.Native.Nat.{ℕ, ◌-◌, ◌≤◌}
 use mathlib.Core.List.{List}
-use lib.ListN.{length}
-use Rattle.format.specs.declared.Ruling.TheVariants.{Fine}
-use Rattle.format.specs.Record.{row_at}
 use Rattle.walk.specs.declared.Scope.{Scope}
 use Rattle.walk.specs.declared.Seen.{Seen}
-use Rattle.walk.specs.declared.Walked.TheVariants.{Through}
-use Rattle.walk.specs.Checks.{checks, judged, next}
-use Rattle.walk.proofs.Judged.{limit_most, sizes_of_fine}
-use Rattle.walk.proofs.Walking.{SoFar, so_far_front, so_far_next, so_far_stop, so_far_end}
+use Rattle.walk.specs.Checks.{checks}
+use Rattle.walk.proofs.Walking.{SoFar}
 use Rattle.walk.proofs.walk.Given as goal
 
 pub record Inv (list version store : List ℕ) (scope : Scope) (limit n : ℕ) (seen : Seen) (i : ℕ) : Type 0 where

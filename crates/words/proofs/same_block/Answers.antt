@@ -1,8 +1,7 @@
-use Prim.Native.Nat.{◌+◌, ◌*◌, ◌-◌, ◌≤◌}
+use Prim.Native.Nat.{◌+◌, ◌*◌}
 use native.Mathlib.Omega.{arith}
-use mathlib.Core.Path.{◌≡◌, refl}
-use Rattle.words.proofs.Stretches.{TellsFirst, next_tells, all_tell}
-use Rattle.std.proofs.Common.{rules}
+use mathlib.Core.Path.{◌≡◌}
+use Rattle.words.proofs.Stretches.{next_tells}
 use Rattle.words.proofs.same_block.Goals as goal
 
 pub loop-k-preserved : goal.loop-k-preserved

@@ -1,8 +1,6 @@
 -- `words::same_block` meets its contract. Invariant: `all` tells of the words so far. Measure: the words left. Assumes nothing.
-use Prim.Native.Nat.{◌+◌, ◌*◌, ◌-◌, ◌≤◌}
-use native.Mathlib.Omega.{arith}
-use mathlib.Core.Path.{◌≡◌, refl}
-use Rattle.words.proofs.Stretches.{TellsFirst, next_tells, all_tell}
+use Prim.Native.Nat.{◌*◌, ◌-◌, ◌≤◌}
+use Rattle.words.proofs.Stretches.{TellsFirst}
 use Rattle.words.proofs.same_block.Given as goal
 
 abbrev pub invariant-loop-k : goal.invariant-loop-k

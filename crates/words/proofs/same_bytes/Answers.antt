@@ -1,9 +1,5 @@
-use Prim.Native.Nat.{◌-◌, ◌≤◌, min}
 use native.Mathlib.Omega.{arith}
-use mathlib.Core.Path.{◌≡◌, refl}
-use lib.ListN.{length}
-use Rattle.words.proofs.Stretches.{TellsFirst, step_tells, all_tell}
-use Rattle.std.proofs.Common.{rules}
+use Rattle.words.proofs.Stretches.{step_tells}
 use Rattle.words.proofs.same_bytes.Goals as goal
 
 pub loop-k-preserved : goal.loop-k-preserved

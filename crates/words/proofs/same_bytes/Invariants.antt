@@ -1,9 +1,7 @@
 -- `words::same_bytes` meets its contract. Invariant: `all` tells of the bytes so far, or of all. Measure: the steps left. Assumes nothing.
 use Prim.Native.Nat.{◌-◌, ◌≤◌, min}
-use native.Mathlib.Omega.{arith}
-use mathlib.Core.Path.{◌≡◌, refl}
 use lib.ListN.{length}
-use Rattle.words.proofs.Stretches.{TellsFirst, step_tells, all_tell}
+use Rattle.words.proofs.Stretches.{TellsFirst}
 use Rattle.words.proofs.same_bytes.Given as goal
 
 abbrev pub invariant-loop-k : goal.invariant-loop-k

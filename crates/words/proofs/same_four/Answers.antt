@@ -1,7 +1,6 @@
 -- `words::same_four` meets its contract: what its two parts tell. Assumes nothing.
 use native.Mathlib.Omega.{arith}
 use Rattle.words.proofs.Stretches.{both_tell}
-use Rattle.std.proofs.Common.{rules}
 use Rattle.words.proofs.same_four.Goals as goal
 
 pub returns : goal.returns

@@ -1,7 +1,6 @@
 -- `words::same_two` meets its contract: what its two parts tell. Assumes nothing.
 use native.Mathlib.Omega.{arith}
 use Rattle.words.proofs.Stretches.{both_tell}
-use Rattle.std.proofs.Common.{rules}
 use Rattle.words.proofs.same_two.Goals as goal
 
 pub returns : goal.returns

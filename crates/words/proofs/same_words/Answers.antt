@@ -1,9 +1,8 @@
 use Prim.Native.Nat.{◌+◌, ◌-◌}
 use native.Mathlib.Omega.{arith}
-use mathlib.Core.Path.{refl}
 use lib.ListN.{length}
-use Rattle.words.proofs.Stretches.{Passed, other_rest, less_left, started, stopped, went_on, fewer, ended_same, ends_tell, all_tell}
-use Rattle.std.proofs.lemmas.Bool.{not_from_false, not_from_true}
+use Rattle.words.proofs.Stretches.{went_on, fewer, ended_same, ends_tell}
+use Rattle.std.proofs.lemmas.Bool.{not_from_true}
 use Rattle.words.proofs.same_words.Goals as goal
 
 pub returns-then-n-lt32 : goal.returns-then-n-lt32

@@ -1,9 +1,6 @@
 -- `words::same_words` meets its contract. Invariant: `Passed`, the blocks so far are the same. Measure: the bytes left before the last block. Assumes nothing.
-use Prim.Native.Nat.{◌+◌, ◌-◌}
-use native.Mathlib.Omega.{arith}
-use mathlib.Core.Path.{refl}
-use lib.ListN.{length}
-use Rattle.words.proofs.Stretches.{Passed, other_rest, less_left, started, stopped, went_on, fewer, ended_same, ends_tell, all_tell}
+use Prim.Native.Nat.{◌-◌}
+use Rattle.words.proofs.Stretches.{Passed}
 use Rattle.words.proofs.same_words.Given as goal
 
 abbrev pub invariant-loop-i : goal.invariant-loop-i
