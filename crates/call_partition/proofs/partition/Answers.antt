@@ -1,4 +1,5 @@
 -- `call_partition::partition` meets its contract: refused as the checks say, or the least choice and what is written of it. Assumes nothing.
+use native.Mathlib.Omega.{arith}
 use mathlib.Core.Path.{sym, ◌∙◌}
 use lib.ListN.{length}
 use Rattle.format.specs.Record.{records_of}
@@ -14,6 +15,11 @@ use Rattle.call_partition.proofs.partition.Goals.{In-Through}
 passed : (c : In-Through) → let g = c.args in
     Admitted g.price g.list.now g.version.now g.store.now (length g.choice.now) (length g.list_area.now) (length g.block_area.now)
 passed c = admitted_of_through _ _ _ _ _ _ _ c.in-Through._totals (sym c.admit-w.ensures ∙ c.in-Through.is)
+
+pub least_choice-requires : goal.least_choice-requires
+least_choice-requires c =
+    let s = (passed (goal.at.least_choice-requires c).In-Through).sound in
+    record { rates_fit = rw c.rates_of-rates.ensures s.fits.rates_fit; n_most = omega (arith, s.fits.counted.list_at_most); in_list = omega arith; in_choice = s.in_choice }
 
 pub finish-requires : goal.finish-requires
 finish-requires c = finishable (passed (goal.at.finish-requires c).In-Through).sound c.rates_of-rates.ensures (search rules)
