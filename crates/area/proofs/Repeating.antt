@@ -1,12 +1,12 @@
 -- A copy within one area, block by block: what is read has not been written.
 -- Assumes nothing.
-use Prim.Native.Nat.{ℕ, ◌+◌, ◌-◌, ◌≤◌}
+use Prim.Native.Nat.{ℕ, ◌+◌, ◌≤◌}
 use native.Mathlib.Omega.{arith}
-use mathlib.Core.Path.{◌≡◌, refl, sym, ◌∙◌, ap}
-use mathlib.Core.List.{List, [], ◌++◌}
+use mathlib.Core.Path.{◌≡◌, sym, ◌∙◌, ap}
+use mathlib.Core.List.{List, ◌++◌}
 use lib.ListN.{length, take, drop, length-append, length-drop, take-append-drop}
 use lib.Seq.{length-take-le, take-append-le, drop-append-le, drop-drop}
-use Rattle.area.proofs.Pasting.{pasted_none, pasted_next, pasted_last}
+use Rattle.area.proofs.Pasting.{pasted_next, pasted_last}
 use Rattle.area.specs.Area.{pasted, repeated}
 
 -- a stretch that lies in the first of two lists

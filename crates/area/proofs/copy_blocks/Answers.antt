@@ -1,11 +1,7 @@
-use Prim.Native.Nat.{◌+◌, ◌-◌, ◌≤◌}
+use Prim.Native.Nat.{◌+◌, ◌-◌}
 use native.Mathlib.Omega.{arith}
-use mathlib.Core.Path.{◌≡◌, refl}
-use lib.ListN.{length, take, drop}
-use Rattle.area.specs.Area.{pasted}
-use Rattle.area.proofs.Pasting.{pasted_none}
+use mathlib.Core.Path.{refl}
 use Rattle.area.proofs.Repeating.{repeated_next, repeated_last}
-use Rattle.std.proofs.Common.{rules}
 use Rattle.area.proofs.copy_blocks.Goals as goal
 
 pub loop-i-preserved : goal.loop-i-preserved

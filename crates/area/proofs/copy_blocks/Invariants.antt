@@ -1,12 +1,9 @@
 -- `area::copy_blocks` meets its contract. The invariant: the first i of the n bytes stand behind. The measure is the number of bytes left.
 -- Assumes nothing.
-use Prim.Native.Nat.{◌+◌, ◌-◌, ◌≤◌}
-use native.Mathlib.Omega.{arith}
-use mathlib.Core.Path.{◌≡◌, refl}
+use Prim.Native.Nat.{◌-◌, ◌≤◌}
+use mathlib.Core.Path.{◌≡◌}
 use lib.ListN.{length, take, drop}
 use Rattle.area.specs.Area.{pasted}
-use Rattle.area.proofs.Pasting.{pasted_none}
-use Rattle.area.proofs.Repeating.{repeated_next, repeated_last}
 use Rattle.area.proofs.copy_blocks.Given as goal
 
 abbrev pub invariant-loop-i : goal.invariant-loop-i

@@ -1,10 +1,7 @@
-use Prim.Native.Nat.{◌+◌, ◌-◌, ◌≤◌}
+use Prim.Native.Nat.{◌+◌, ◌-◌}
 use native.Mathlib.Omega.{arith}
-use mathlib.Core.Path.{◌≡◌, refl}
-use lib.ListN.{length, take}
-use Rattle.area.specs.Area.{pasted}
-use Rattle.area.proofs.Pasting.{pasted_none, pasted_next, pasted_last}
-use Rattle.std.proofs.Common.{rules}
+use lib.ListN.{length}
+use Rattle.area.proofs.Pasting.{pasted_next, pasted_last}
 use Rattle.area.proofs.put_blocks.Goals as goal
 
 pub loop-i-preserved : goal.loop-i-preserved

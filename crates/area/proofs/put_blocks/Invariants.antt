@@ -1,10 +1,8 @@
 -- `area::put_blocks` meets its contract. The invariant: the first i bytes of src stand in the area. The measure is the number of bytes left. Assumes nothing.
-use Prim.Native.Nat.{◌+◌, ◌-◌, ◌≤◌}
-use native.Mathlib.Omega.{arith}
-use mathlib.Core.Path.{◌≡◌, refl}
+use Prim.Native.Nat.{◌-◌, ◌≤◌}
+use mathlib.Core.Path.{◌≡◌}
 use lib.ListN.{length, take}
 use Rattle.area.specs.Area.{pasted}
-use Rattle.area.proofs.Pasting.{pasted_none, pasted_next, pasted_last}
 use Rattle.area.proofs.put_blocks.Given as goal
 
 abbrev pub invariant-loop-i : goal.invariant-loop-i
