@@ -1,11 +1,12 @@
 -- Bytes copied into the rest of an area, seen as bytes over the whole area; and bytes copied block by block.
 -- Assumes nothing.
-use Prim.Native.Nat.{ℕ, ◌+◌, ◌-◌, ◌≤◌}
+use Prim.Native.Nat.{ℕ, ◌+◌, ◌-◌, ◌≤◌, ◌<◌}
 use native.Mathlib.Omega.{arith}
 use mathlib.Core.Path.{◌≡◌, sym, ◌∙◌, ap}
-use mathlib.Core.List.{List, [], ◌++◌, append_assoc, append-nil}
-use lib.ListN.{length, take, drop, length-append, length-drop, drop_of_length-le, take-append-drop}
+use mathlib.Core.List.{List, [], ◌∷◌, ◌++◌, append_assoc, append-nil}
+use lib.ListN.{length, take, drop, set, get_or, length-append, length-drop, drop_of_length-le, take-append-drop}
 use lib.Seq.{length-take-le, take_all, take_at, take-length, take-take, take-add, take-append-le, take-append-add, drop-append-add, drop-drop}
+use Rattle.std.proofs.lemmas.List.{take-set, drop-set, drop_more}
 use borrow.Rule.Slice.PartMut.{put_mid}
 use Rattle.area.specs.Area.{pasted}
 
@@ -26,6 +27,14 @@ pasted_none at d =
 -- what was copied to the front of a list
 pub copied_front : (src d last : List ℕ) (n : ℕ) → n ≡ length src → last ≡ take (length src) src ++ drop (length src) d → take n last ≡ src
 copied_front src d last n n_is e = rw (e, take-length src) (take_at src (drop (length src) d) n (sym n_is))
+
+-- one byte is written at its place
+pub pasted_one : (j x : ℕ) (area : List ℕ) → j < length area → set area j x ≡ pasted j (x ∷ []) area
+pasted_one j x area h = sym (take-append-drop j (set area j x)) ∙ rw (take-set area j x, drop-set area j x h) (sym (append_assoc (take j area) (x ∷ []) (drop (j + 1) area)))
+
+-- the first byte of what stands from i on
+pub take_one : (i : ℕ) (src : List ℕ) → i < length src → take 1 (drop i src) ≡ get_or src i 0 ∷ []
+take_one i src h = ap (take 1) (drop_more src i 0 h)
 
 pub length_pasted : (at : ℕ) (s d : List ℕ) → at + length s ≤ length d → length (pasted at s d) ≡ length d
 length_pasted at s d h =

@@ -12,7 +12,9 @@ pub fn put_plain(area: &mut [u8], at: usize, src: &[u8])
     requires { at + length src.now ≤ length area.old }
     ensures { area.new ≡ pasted at src.now area.old }
 {
-    area[at..at + src.len()].copy_from_slice(src);
+    for i in 0..src.len() {
+        area[at + i] = src[i];
+    }
 }
 
 // Copies a block. It is read whole before it is written, so that it can be compiled to loads and then stores.
@@ -22,7 +24,7 @@ fn put_block(area: &mut [u8], at: usize, src: &[u8])
 {
     let mut block = [0u8; 64];
     let n = src.len();
-    block[..n].copy_from_slice(src);
+    put_plain(&mut block, 0, src);
     put_plain(area, at, &block[..n]);
 }
 
@@ -69,7 +71,7 @@ fn copy_block(area: &mut [u8], from: usize, to: usize, n: usize)
     ensures { area.new ≡ repeated from to n area.old }
 {
     let mut block = [0u8; 256];
-    block[..n].copy_from_slice(&area[from..from + n]);
+    put_plain(&mut block, 0, &area[from..from + n]);
     put_plain(area, to, &block[..n]);
 }
 
