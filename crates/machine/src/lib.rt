@@ -172,11 +172,10 @@ fn look(machine: Machine, rates: Rates) -> Step
 }
 
 // Looks until p is the rear, carries out the outcome of each look on the list, and counts the looks.
-pub fn run(machine: Machine, rates: Rates) -> Passed
-    requires { Runnable rates machine }
-    ensures { Ran rates (right_of machine) result }
+pub fn run(mut list: Machine, rates: Rates) -> Passed
+    requires { Runnable rates list }
+    ensures { Ran rates (right_of list) result }
 {
-    let mut list = machine;
     let mut looks: u32 = 0;
     while list.right < REAR {
         let step = look(list, rates);
