@@ -252,8 +252,7 @@ pub extern "C" fn pool(
     answer::give(pool::pool(first, second, version, store, list_area), answer)
 }
 
-// Rebuild_volume.
-#[unsafe(no_mangle)]
+// Rebuild_volume. The header does not declare it yet, and the archive does not give it.
 pub extern "C" fn rebuild_volume(
     index: &[u8],
     lists: &[u8],

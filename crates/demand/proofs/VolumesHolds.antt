@@ -275,7 +275,8 @@ as_one_chunk list block x y t u e =
     let q = rebuild_ruling list block [] y.before in
     let ruled : ruling_of (added none list block) x.before ≡ renamed q = ap (ruling_of (added none list block)) e ∙ ruling_one list block y.before in
     let k = added none list block in
-    let told : answer q (length_only (length (volume_in k))) ≡ answer q (length_only (whole (records_of list))) = same_figures q (λ f. length_one list block y.before (fine_of_renamed (chunk_ruling 0 (chunk list block)) (inputs_ruling list block []) (renames_read list block y.before) (fine_of_then (inputs_ruling list block []) (need (leb (whole (records_of list)) (length y.before)) fault.AreaTooShort 0) f).0)) in (
+    let told : answer q (length_only (length (volume_in k))) ≡ answer q (length_only (whole (records_of list))) =
+    same_figures q (λ f. length_one list block y.before (fine_of_renamed (chunk_ruling 0 (chunk list block)) (inputs_ruling list block []) (renames_read list block y.before) (fine_of_then (inputs_ruling list block []) (need (leb (whole (records_of list)) (length y.before)) fault.AreaTooShort 0) f).0)) in (
       t.answered ∙ ap (λ (z : Ruling). answer z (length_only (length (volume_in k)))) ruled ∙ renamed_answer q (length_only (length (volume_in k))) ∙ ap as_chunk (told ∙ sym u.answered),
       t.area_after ∙ ap (λ (z : Ruling). unless_refused z (over (volume_in k) x.before) x.before) ruled
           ∙ renamed_area q (over (volume_in k) x.before) x.before

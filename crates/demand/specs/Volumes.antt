@@ -1,4 +1,4 @@
--- The laws of rebuild_volume (sections 4.14 and 8.10), by the contracts of the calls.
+-- The laws of rebuild_volume, by the contracts of the calls.
 --
 -- In order: a volume as it is kept, and one chunk more; a call of rebuild_volume; when a version comes back; one chunk by itself; the laws, a field for
 -- each; a deposit as one function makes it.
@@ -76,18 +76,18 @@ as_chunk (Accepted x) = Accepted x
 as_chunk (Refused r) = Refused (refuse (of_chunk r.fault) 0)
 
 pub record VolumeLaws : Type 0 where
-  -- clause 8.10.1: a version that partition deposited against the rebuilt part, and that is added as the next chunk, comes back, as do all before it
+  -- a version that partition deposited against the rebuilt part, and that is added as the next chunk, comes back, as do all before it
   pub of_partition : (p : Price) (k : Kept) (list v : List ℕ) (x : Rebuilding) (y : Call) → Rebuilds k x → Accepts x.answer
       → Partitioned p list v (written_volume x) y.before y.answer y.after → Accepts y.answer → ComesBack k (written_volume x) (written_list y) (written_block y) v
-  -- clause 8.10.2: or pass, or commit
+  -- or pass, or commit
   pub of_pass : (p : Price) (k : Kept) (list v : List ℕ) (x : Rebuilding) (y : Call) → Rebuilds k x → Accepts x.answer
       → PassMade p list v (written_volume x) y.before y.answer y.after → Accepts y.answer → ComesBack k (written_volume x) (written_list y) (written_block y) v
   pub of_commit : (p : Price) (k : Kept) (list v : List ℕ) (x : Rebuilding) (y : Call) → Rebuilds k x → Accepts x.answer
       → Commits p list v (written_volume x) y → Accepts y.answer → ComesBack k (written_volume x) (written_list y) (written_block y) v
-  -- clause 8.10.3: a volume of one chunk is what rebuild makes of it with an empty store, refused or not
+  -- a volume of one chunk is what rebuild makes of it with an empty store, refused or not
   pub one_chunk : (list block : List ℕ) (x y : Rebuilding) → Rebuilds (added none list block) x → Rebuilt list block [] y.before y.answer y.after → x.before ≡ y.before
       → (x.answer ≡ as_chunk y.answer) × (x.after ≡ y.after)
-  -- clause 8.10.4: each chunk by itself: rebuild of its list and stored block, with the part before it as store, gives its stretch of the area
+  -- each chunk by itself: rebuild of its list and stored block, with the part before it as store, gives its stretch of the area
   pub each_chunk : (k : Kept) (i : ℕ) (x y : Rebuilding) → Rebuilds k x → Accepts x.answer → i < length (chunks_in k)
       → Rebuilt (chunk_at k i).list (chunk_at k i).block (take (start_of k i) x.after) y.before y.answer y.after → whole_of (chunk_at k i) ≤ length y.before
       → (y.answer ≡ Accepted (length_only (whole_of (chunk_at k i)))) × (y.after ≡ over (take (whole_of (chunk_at k i)) (drop (start_of k i) x.after)) y.before)

@@ -1,4 +1,4 @@
--- The limits of clauses 1.1 to 1.3 and 1.15, in bytes.
+-- The limits of clauses 1.1 to 1.3, and of a volume, in bytes.
 -- Assumes nothing.
 use Rattle.std.specs.Prelude.{ℕ}
 

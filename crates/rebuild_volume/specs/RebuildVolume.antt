@@ -1,4 +1,4 @@
--- The call rebuild_volume (section 4.14): its checks in their order, its answer, and the area after it.
+-- The call rebuild_volume: its checks in their order, its answer, and the area after it.
 -- Assumes nothing.
 use Rattle.std.specs.Prelude.{ℕ, ◌+◌, ◌%◌, ◌≤◌, ◌≡◌, Bool, ◌&&◌, List, [], ◌∷◌, eqb, leb, length}
 use Rattle.format.specs.declared.Fault.TheVariants.{AreaTooShort, Index}
@@ -42,7 +42,7 @@ abbrev pub chunks_ruling : ℕ → ℕ → List Chunk → Ruling
 chunks_ruling p n [] = Fine
 chunks_ruling p n (c ∷ cs) = placed p (chunk_ruling n c) then chunks_ruling (p + 1) (n + whole_of c) cs
 
--- the order of clause 6.10: 14; chunk by chunk 3 to 10; at last 9, where the area is shorter than the volume
+-- the order: 14; chunk by chunk 3 to 10; at last 9, where the area is shorter than the volume
 abbrev pub volume_ruling : List ℕ → List ℕ → List ℕ → List ℕ → Ruling
 volume_ruling index lists blocks area =
     need (index_fits index lists blocks) Index 0

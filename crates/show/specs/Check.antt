@@ -21,7 +21,11 @@ read_ruling x list block st =
 
 -- the order of clause 6.2: 2, 3; record by record 4, 5, 6, 7; then 10
 abbrev pub inputs_ruling : List ℕ → List ℕ → List ℕ → Ruling
-inputs_ruling list block st = need (leb (length st) store_most) TooLong 0 then read_ruling scope.Store list block st
+inputs_ruling list block st =
+    need (leb (length st) store_most) TooLong 0
+    then need (list_fits list) ListLength 0
+    then walk_ruling (checks scope.Store [] st) list
+    then need (eqb (length block) (stored (records_of list))) BlockLength 0
 
 -- check: then 11
 abbrev pub check_ruling : List ℕ → List ℕ → List ℕ → ℕ → Ruling

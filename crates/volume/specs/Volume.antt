@@ -1,4 +1,4 @@
--- A volume (clauses 1.15 to 1.18): the index, the chunks that it cuts from the lists and the stored blocks, and what they rebuild one behind the other.
+-- A volume: the index, the chunks that it cuts from the lists and the stored blocks, and what they rebuild one behind the other.
 --
 --   OFFSET  SIZE  FIELD OF AN INDEX RECORD
 --   0       4     list: bytes of the chunk's list, lowest byte first

@@ -9,6 +9,7 @@ use lib.ListN.{length, take, drop}
 use borrow.Author.Tests.{leb-true, le-leb, lt-leb}
 use Rattle.format.specs.declared.Fault.TheVariants.{Malformed, Adjacent, Sizes, OutsideStore, Mismatch, OutsideEarlier, VolumeTooLong}
 use Rattle.format.specs.declared.Row.{Row}
+use Rattle.format.specs.declared.Refusal.{Refusal}
 use Rattle.format.specs.declared.Ruling.{Ruling}
 use Rattle.format.specs.declared.Ruling.TheVariants.{Fine, Stop}
 use Rattle.format.specs.Limits.{version_most}
@@ -19,7 +20,7 @@ use Rattle.words.specs.Same.{same_bytes}
 use Rattle.walk.specs.declared.Seen.{Seen}
 use Rattle.walk.specs.declared.Scope.{Scope}
 use Rattle.walk.specs.declared.Scope.TheVariants as scope
-use Rattle.walk.specs.Checks.{Check, four, five, six, seven, eight, fifteen, within, limit_of, tight, neighbours, together, beyond, checks, judged}
+use Rattle.walk.specs.Checks.{Check, four, five, six, seven, eight, fifteen, sixteen, within, limit_of, tight, neighbours, together, beyond, checks, judged}
 
 pub limit_most : (x : Scope) (v : List ℕ) → length v ≤ version_most → limit_of x v ≤ version_most
 limit_most scope.Sizes v h = omega arith
@@ -42,31 +43,30 @@ judged_store s r e n x h = rw (e, h) (then_fine (need x OutsideStore s.place))
 pub judged_earlier : (s : Seen) (r : Row) → is_new r ≡ false → (n : ℕ) (x : Bool) → within r n ≡ x → judged (fifteen n ∷ []) s r ≡ need x OutsideEarlier s.place
 judged_earlier s r e n x h = rw (e, h) (then_fine (need x OutsideEarlier s.place))
 
--- checks after others
-then_assoc : (a b c : Ruling) → (a then b) then c ≡ a then b then c
-then_assoc Fine b c = refl
-then_assoc (Stop x) b c = refl
-
-judged_append : (cs ds : List Check) (s : Seen) (r : Row) → judged (cs ++ ds) s r ≡ judged cs s r then judged ds s r
-judged_append [] ds s r = refl
-judged_append (c ∷ cs) ds s r =
-    let q : Ruling = need (c.holds s r) c.fault s.place in
-    ap (λ (k : Ruling). q then k) (judged_append cs ds s r) ∙ sym (then_assoc q (judged cs s r) (judged ds s r))
-
 module _ (s : Seen) (r : Row) (v st : List ℕ) where
   -- a match, where the call has a version and a store
   pub judged_version : is_new r ≡ false → (x y : Bool) → within r (length st) ≡ x → same_bytes (take r.size (drop s.offset v)) (take r.size (drop r.address st)) ≡ y
       → judged (seven (length st) ∷ eight v st ∷ []) s r ≡ need x OutsideStore s.place then need y Mismatch s.place
   judged_version e x y h k = rw (e, h, k) (ap (λ (q : Ruling). need x OutsideStore s.place then q) (then_fine (need y Mismatch s.place)))
 
-  -- a new record has no check beyond 16
-  pub judged_new : (x : Scope) → is_new r ≡ true → judged (beyond x v st) s r ≡ Fine
-  judged_new scope.Sizes e = refl
-  judged_new scope.Store e = rw e
-  judged_new scope.Loose e = rw e
-  judged_new scope.Version e = rw e
-  judged_new scope.LooseVersion e = rw e
-  judged_new (scope.Chunk n) e = rw e
+  -- a new record that passes 16 passes all that is beyond
+  pub judged_new : (x : Scope) → judged (together x) s r ≡ Fine → is_new r ≡ true → judged (beyond x v st) s r ≡ Fine
+  judged_new scope.Sizes k e = refl
+  judged_new scope.Store k e = rw e
+  judged_new scope.Loose k e = rw e
+  judged_new scope.Version k e = rw e
+  judged_new scope.LooseVersion k e = rw e
+  judged_new (scope.Chunk n) k e = rw ((holds_of_fine (sixteen n) [] s r k).0, e)
+
+  -- where check 16 fails, it is what is said
+  pub judged_together : {q : Refusal} (x : Scope) → judged (together x) s r ≡ Stop q → judged (beyond x v st) s r ≡ Stop q
+  judged_together scope.Sizes k = cc
+  judged_together scope.Store k = cc
+  judged_together scope.Loose k = cc
+  judged_together scope.Version k = cc
+  judged_together scope.LooseVersion k = cc
+  judged_together (scope.Chunk n) k =
+      ap (λ (q : Ruling). q then judged (fifteen n ∷ []) s r) (sym (then_fine (need ((sixteen n).holds s r) VolumeTooLong s.place)) ∙ k)
 
   -- check 5, which is made where t is true
   apart_five : (t : Bool) (cs : List Check) → (is_new r && s.fresh) && t ≡ false → judged (cond t (five ∷ []) [] ++ cs) s r ≡ judged cs s r
@@ -83,7 +83,7 @@ module _ (s : Seen) (r : Row) (v st : List ℕ) where
 
   module _ (x : Scope) where
     abbrev later : List Check
-    later = six (limit_of x v) ∷ (together x ++ beyond x v st)
+    later = six (limit_of x v) ∷ beyond x v st
 
     pub judged_malformed : well_formed r ≡ false → judged (checks x v st) s r ≡ Stop (refuse Malformed s.place)
     judged_malformed e = rw e
@@ -99,13 +99,11 @@ module _ (s : Seen) (r : Row) (v st : List ℕ) where
         pub judged_sizes : limit_of x v < s.offset + r.size → judged (checks x v st) s r ≡ Stop (refuse Sizes s.place)
         judged_sizes g = judged_later ∙ rw (lt-leb _ _ g)
 
-        -- check 16, which holds where b is true
-        pub judged_together : s.offset + r.size ≤ limit_of x v → (b : Bool) → judged (together x) s r ≡ need b VolumeTooLong s.place
-            → judged (checks x v st) s r ≡ need b VolumeTooLong s.place then judged (beyond x v st) s r
-        judged_together g b k = judged_later ∙ rw (le-leb _ _ g) (judged_append (together x) (beyond x v st) s r ∙ ap (λ (q : Ruling). q then judged (beyond x v st) s r) k)
+        pub judged_beyond : s.offset + r.size ≤ limit_of x v → judged (checks x v st) s r ≡ judged (beyond x v st) s r
+        judged_beyond g = judged_later ∙ rw (le-leb _ _ g)
 
     -- a record that passes stays within the limit
     pub sizes_of_fine : judged (checks x v st) s r ≡ Fine → s.offset + r.size ≤ limit_of x v
     sizes_of_fine e =
         let a = holds_of_fine four (neighbours x ++ later) s r e in
-        leb-true (s.offset + r.size) (limit_of x v) (holds_of_fine (six (limit_of x v)) (together x ++ beyond x v st) s r (after_five (tight x) later a.1)).0
+        leb-true (s.offset + r.size) (limit_of x v) (holds_of_fine (six (limit_of x v)) (beyond x v st) s r (after_five (tight x) later a.1)).0

@@ -14,12 +14,12 @@ use Rattle.format.proofs.Unmarking.{bare_row, bare_rows, rows_unmarked, formed_b
 use Rattle.walk.specs.declared.Seen.{Seen}
 use Rattle.walk.specs.declared.Scope.{Scope}
 use Rattle.walk.specs.declared.Scope.TheVariants as scope
-use Rattle.walk.specs.Checks.{Check, limit_of, neighbours, six, together, beyond, checks, judged, next, walk_on, front, walk_ruling}
+use Rattle.walk.specs.Checks.{Check, limit_of, neighbours, six, beyond, checks, judged, next, walk_on, front, walk_ruling}
 
 module _ (x : Scope) (v st : List ℕ) where
   -- the checks after check 4 do not read byte 1
   abbrev others : Scope → List Check
-  others y = neighbours y ++ six (limit_of y v) ∷ (together y ++ beyond y v st)
+  others y = neighbours y ++ six (limit_of y v) ∷ beyond y v st
 
   others_bare : (s : Seen) (r : Row) → judged (others x) s (bare_row r) ≡ judged (others x) s r
   others_bare s r = go x

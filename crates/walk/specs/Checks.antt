@@ -1,4 +1,4 @@
--- Checks 4 to 8, 15 and 16 (clauses 5.4 to 5.8, 5.15 and 5.16), made record by record: which a call makes, and what the first that fails says.
+-- Checks 4 to 8 (clauses 5.4 to 5.8), and 15 and 16 of a volume's chunk, made record by record: which a call makes, and what the first that fails says.
 -- Assumes nothing.
 use Rattle.std.specs.Prelude.{ℕ, ◌+◌, Bool, true, false, not, ◌&&◌, ◌||◌, cond, List, [], ◌∷◌, ◌++◌, leb, length, take, drop}
 use Rattle.format.specs.declared.Fault.{Fault}
@@ -78,18 +78,18 @@ together scope.Version = []
 together scope.LooseVersion = []
 together (scope.Chunk n) = sixteen n ∷ []
 
--- a call without a store makes neither 7 nor 8, one without a version no 8; of a chunk 15 stands in the place of 7
+-- a call without a store makes neither 7 nor 8, one without a version no 8; of a chunk 16 comes first, and 15 stands in the place of 7
 abbrev pub beyond : Scope → List ℕ → List ℕ → List Check
 beyond scope.Sizes v st = []
 beyond scope.Store v st = seven (length st) ∷ []
 beyond scope.Loose v st = seven (length st) ∷ []
 beyond scope.Version v st = seven (length st) ∷ eight v st ∷ []
 beyond scope.LooseVersion v st = seven (length st) ∷ eight v st ∷ []
-beyond (scope.Chunk n) v st = fifteen n ∷ []
+beyond (scope.Chunk n) v st = sixteen n ∷ fifteen n ∷ []
 
--- record by record 4, 5, 6, 7, 8 (clause 6.5); of a chunk 4, 5, 6, 16, 15 (clause 6.10)
+-- record by record 4, 5, 6, 7, 8 (clause 6.5); of a chunk 4, 5, 6, 16, 15
 abbrev pub checks : Scope → List ℕ → List ℕ → List Check
-checks x v st = four ∷ neighbours x ++ six (limit_of x v) ∷ (together x ++ beyond x v st)
+checks x v st = four ∷ neighbours x ++ six (limit_of x v) ∷ beyond x v st
 
 -- one record: the first check that fails, at the record's place
 abbrev pub judged : List Check → Seen → Row → Ruling

@@ -133,7 +133,7 @@ fn judge_earlier(row: Row, seen: Seen, before: u32) -> Ruling
 
 // Checks 7 and 8 of a match, or 15, as far as the scope goes.
 fn judge_match(row: Row, seen: Seen, scope: Scope, version: &[u8], store: &[u8]) -> Ruling
-    requires { (is_new row ≡ false) × (seen.offset + row.size ≤ limit_of scope version.now) }
+    requires { (is_new row ≡ false) × (seen.offset + row.size ≤ limit_of scope version.now) × (judged (together scope) seen row ≡ Ruling.Fine) }
     ensures { result ≡ judged (beyond scope version.now store.now) seen row }
 {
     match scope {
