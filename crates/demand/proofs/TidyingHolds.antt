@@ -19,7 +19,7 @@ use Rattle.format.specs.declared.Figures.{Figures}
 use Rattle.format.specs.declared.Answer.{Answer}
 use Rattle.format.specs.declared.Answer.TheVariants.{Accepted, Refused}
 use Rattle.format.specs.Limits.{store_most}
-use Rattle.format.specs.Refusal.{refuse, need, ◌then◌, answer, Accepts, figures_in, length_only, entries_only}
+use Rattle.format.specs.Refusal.{refuse, need, ◌then◌, Accepts, figures_in, length_only, entries_only}
 use Rattle.format.specs.Record.{list_fits, records_of, encode}
 use Rattle.format.specs.Meaning.{whole, stored, rebuilt}
 use Rattle.format.specs.WellFormed.{Readable}

@@ -2,13 +2,13 @@
 --
 -- In order: an accepted call; one chunk more; a volume of one chunk; each chunk by itself; the laws; a deposit.
 -- Assumes nothing.
-use Prim.Native.Nat.{ℕ, zero, suc, ◌+◌, ◌≤◌, ◌<◌}
+use Prim.Native.Nat.{ℕ, suc, ◌+◌, ◌≤◌, ◌<◌}
 use native.Mathlib.Omega.{arith}
 use mathlib.Core.Path.{◌≡◌, refl, sym, ◌∙◌, ap, ap₂, subst}
 use mathlib.Core.Bool.{Bool, true, false, not, ◌&&◌, ◌||◌}
-use mathlib.Core.List.{List, [], ◌∷◌, ◌++◌, append_assoc, append-nil}
+use mathlib.Core.List.{List, [], ◌∷◌, ◌++◌, append_assoc}
 use lib.Dec.{leb, eqb}
-use lib.ListN.{length, take, drop, get_or, length-append}
+use lib.ListN.{length, take, drop, length-append}
 use lib.Seq.{split_at, take_at, drop_at}
 use borrow.Author.Tests.{le-leb, leb-true}
 use Rattle.format.specs.declared.Fault.TheVariants as fault
@@ -20,7 +20,7 @@ use Rattle.format.specs.declared.Ruling.TheVariants.{Fine, Stop}
 use Rattle.format.specs.declared.Figures.{Figures}
 use Rattle.format.specs.declared.Answer.{Answer}
 use Rattle.format.specs.declared.Answer.TheVariants.{Accepted, Refused}
-use Rattle.format.specs.Limits.{version_most, store_most, volume_most, index_most}
+use Rattle.format.specs.Limits.{version_most, store_most, volume_most}
 use Rattle.format.specs.Refusal.{refuse, need, ◌then◌, answer, unless_refused, Accepts, figures_in, length_only}
 use Rattle.format.specs.Record.{is_new, well_formed, rows_of, records_of, encode, list_fits}
 use Rattle.format.specs.Meaning.{whole, stored, block_of, rebuilt}
@@ -37,25 +37,24 @@ use Rattle.price.specs.Price.{rates_of}
 use Rattle.area.specs.Area.{over, Areas}
 use Rattle.area.proofs.Filling.{front_room}
 use Rattle.area.proofs.Filling as filling
-use Rattle.show.specs.Check.{read_ruling, inputs_ruling}
+use Rattle.show.specs.Check.{inputs_ruling}
 use Rattle.show.proofs.Accepting.{read_fine, inputs_read}
 use Rattle.rebuild.specs.Rebuild.{rebuild_ruling, Rebuilt}
 use Rattle.rebuild.proofs.Accepting.{rebuild_fine}
-use Rattle.volume.specs.Volume.{Chunk, chunk, chunks_of, chunk_bytes, volume, volume_of, index_bytes}
+use Rattle.volume.specs.Volume.{Chunk, chunk, chunk_bytes, volume, volume_of}
 use Rattle.volume.proofs.Volumes.{behind, volume_behind, volume_append}
 use Rattle.volume.proofs.Adding.{Fitting, fitting_added, chunks_added, volume_added}
 use Rattle.rebuild_volume.specs.RebuildVolume.{index_fits, chunk_ruling, placed, whole_of, wholes, chunks_ruling, volume_ruling, VolumeRebuilt}
 use Rattle.rebuild_volume.proofs.Accepting.{ChunkFit, fit_of_chunk, fit_inside, chunk_written, fine_of_chunks, sound_of_fine, fine_of_append, append_of_fine, fits_of_fitting, Fit, fit_of_fine, fine_of_fit}
-use Rattle.choice.specs.Choice.{Bit, IsChoice, list_of}
+use Rattle.choice.specs.Choice.{Bit, IsChoice}
 use Rattle.choice.proofs.Least.{least_fits}
 use Rattle.admit.proofs.Admitting.{Sound}
 use Rattle.writer.specs.Decide.{Decided}
 use Rattle.writer.proofs.Deciding.{decided_fine}
 use Rattle.call_partition.specs.Partition.{Partitioned}
 use Rattle.linear.proofs.Theorems.{pass_holds}
-use Rattle.demand.specs.declared.Deposited.{Deposited}
 use Rattle.demand.specs.Demand.{Call, Rebuilding, written_list, written_block}
-use Rattle.demand.specs.Volumes.{Kept, none, added, Rebuilds, volume_written, written_volume, ComesBack, chunks_in, chunk_at, start_of, of_chunk, as_chunk, VolumeLaws, Deposits}
+use Rattle.demand.specs.Volumes.{Kept, none, added, Rebuilds, written_volume, ComesBack, chunks_in, chunk_at, start_of, of_chunk, as_chunk, VolumeLaws, Deposits}
 use Rattle.demand.proofs.WrittenList.{list_is_written, block_is_written, well_formed_written, whole_written, count_written}
 use Rattle.demand.proofs.SplitHolds.{sound, given, decides}
 use Rattle.demand.proofs.TidyingHolds.{sound_of_decided}
