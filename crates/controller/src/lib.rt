@@ -252,8 +252,8 @@ pub extern "C" fn pool(
     answer::give(pool::pool(first, second, version, store, list_area), answer)
 }
 
-// Rebuild_volume. The header does not declare it yet, and the archive does not give it.
-pub extern "C" fn rebuild_volume(
+// Rebuild_volume. It is no C call yet: the header does not declare it, and the archive does not give it.
+pub fn rebuild_volume(
     index: &[u8],
     lists: &[u8],
     blocks: &[u8],
