@@ -114,8 +114,8 @@ pub fn pass_choice(rates: Rates, list: &[u8], choice: &mut [u8]) -> u32
     requires { Passable rates list.now choice.old }
     ensures { PassIn rates list.now choice.old choice.new result }
 {
-    let loaded = load(list);
-    let passed = machine::run(loaded, rates);
-    read_off(passed.list, list, choice);
-    passed.looks
+    let mut loaded = load(list);
+    let looks = machine::look_through(&mut loaded, rates);
+    read_off(loaded, list, choice);
+    looks
 }

@@ -17,7 +17,7 @@ pub const REAR: usize = 4097;
 const LAST: usize = REAR - 1;
 
 // The carried list: places 0 to left - 1 come before p, p stands at right, and place REAR is the rear mark.
-#[derive(Drop)]
+#[derive(Clone, Copy)]
 pub struct Machine {
     pub kinds: [u8; 4098],
     pub sizes: [u32; 4098],
@@ -46,7 +46,7 @@ pub struct Move {
 
 // What came of a look, with the list that it was made on: its outcome, what this does to the list, and what the look counts. (The list comes first,
 // or the compiler copies it between looks more often.)
-#[derive(Drop)]
+#[derive(Clone, Copy)]
 pub struct Step {
     pub list: Machine,
     pub outcome: Outcome,
@@ -55,7 +55,7 @@ pub struct Step {
 }
 
 // The list at the end, with the number of looks.
-#[derive(Drop)]
+#[derive(Clone, Copy)]
 pub struct Passed {
     pub list: Machine,
     pub looks: u32,
@@ -172,14 +172,14 @@ fn look(machine: Machine, rates: Rates) -> Step
 }
 
 // Looks until p is the rear, carries out the outcome of each look on the list, and counts the looks.
-pub fn run(mut list: Machine, rates: Rates) -> Passed
-    requires { Runnable rates list }
-    ensures { Ran rates (right_of list) result }
+pub fn look_through(list: &mut Machine, rates: Rates) -> u32
+    requires { Runnable rates list.old }
+    ensures { Ran rates (right_of list.old) (record { list = list.new; looks = result }) }
 {
     let mut looks: u32 = 0;
     while list.right < REAR {
-        let step = look(list, rates);
-        list = step.list;
+        let step = look(*list, rates);
+        *list = step.list;
         looks += step.looks;
         let next = step.next;
         let right = list.right;
@@ -191,5 +191,15 @@ pub fn run(mut list: Machine, rates: Rates) -> Passed
         list.left = next.left;
         list.right = next.right;
     }
+    looks
+}
+
+// The same of a list that is handed over.
+pub fn run(machine: Machine, rates: Rates) -> Passed
+    requires { Runnable rates machine }
+    ensures { Ran rates (right_of machine) result }
+{
+    let mut list = machine;
+    let looks = look_through(&mut list, rates);
     Passed { list, looks }
 }

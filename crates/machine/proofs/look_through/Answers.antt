@@ -1,7 +1,7 @@
 -- Each look is one of the looks of the pass, and the list that it leaves is the list that the next look is made on.
 use Rattle.std.proofs.Common.{rules, refl, arith}
 use Rattle.machine.proofs.Rounds.{round_start, looks_left, round_next, round_end}
-use Rattle.machine.proofs.run.Goals as goal
+use Rattle.machine.proofs.look_through.Goals as goal
 
 pub loop-list-init : goal.loop-list-init
 loop-list-init c = round_start c.requires (search rules) (search rules)
