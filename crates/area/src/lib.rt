@@ -89,7 +89,7 @@ fn copy_blocks(area: &mut [u8], from: usize, to: usize, n: usize, k: usize)
     copy_block(area, from + last, to + last, k);
 }
 
-// Copies the n bytes from `from` on over those from `to` on, which lie behind all of them. A block of 256 is compiled to one call of memmove.
+// Copies the n bytes from `from` on over those from `to` on, which lie behind all of them.
 pub fn copy_within(area: &mut [u8], from: usize, to: usize, n: usize)
     requires { (from + n ≤ to) × (to + n ≤ length area.old) }
     ensures { area.new ≡ repeated from to n area.old }

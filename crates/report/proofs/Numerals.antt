@@ -1,12 +1,13 @@
--- The fewest digits of a number are its decimal text.
+-- The fewest digits of a number are its decimal text, of at most 20 bytes.
 -- Assumes nothing.
 use Prim.Native.Nat.{ℕ, zero, suc, ◌+◌, ◌*◌, ◌-◌, ◌/◌, ◌%◌, ◌^◌, ◌≤◌, ◌<◌}
 use native.Mathlib.Omega.{arith}
 use native.Mathlib.Nat.{pow-succ', one-le-pow, pow-le-pow_right}
 use mathlib.Core.Path.{◌≡◌, refl, ap}
-use mathlib.Core.Bool.{Bool, true, false}
-use mathlib.Core.List.{[], ◌∷◌}
-use lib.Dec.{leb}
+use mathlib.Core.Bool.{Bool, true, false, cond}
+use mathlib.Core.List.{[], ◌∷◌, ◌++◌}
+use lib.Dec.{leb, ltb}
+use lib.ListN.{length, length-append}
 use borrow.Author.Tests.{lt-ltb, le-ltb, leb-true, leb-false}
 use Rattle.io.specs.Digits.{hex_digit_ascii, last_digits, IsDigitCount}
 use Rattle.report.specs.Text.{decimal_in, decimal}
@@ -44,3 +45,14 @@ digits_most r n h f = go (leb r 20) refl
 
 pub decimal_of_fewest : (r n : ℕ) → n < 18446744073709551616 → IsDigitCount 10 1 n r → last_digits 10 r n ≡ decimal n
 decimal_of_fewest r n h f = decimal_digits r 20 n (digits_most r n h f) f.0 f.1 f.2
+
+length_in : (k n : ℕ) → length (decimal_in k n) ≤ k
+length_in zero n = omega arith
+length_in (suc k) n = go (ltb n 10) (length_in k (n / 10))
+  where
+    go : (t : Bool) → length (decimal_in k (n / 10)) ≤ k → length (cond t ((48 + n) ∷ []) (decimal_in k (n / 10) ++ ((48 + n % 10) ∷ []))) ≤ suc k
+    go true h = omega arith
+    go false h = omega (arith, length-append (decimal_in k (n / 10)) ((48 + n % 10) ∷ []))
+
+pub length_decimal : (n : ℕ) → length (decimal n) ≤ 20
+length_decimal n = length_in 20 n

@@ -61,6 +61,21 @@ module _ (list block st : List ℕ) where
   pub inputs_read : length st ≤ store_most → inputs_ruling list block st ≡ read_ruling scope.Store list block st
   inputs_read h = rw (le-leb (length st) store_most h)
 
+  module _ (h : length st ≤ store_most) where
+    pub inputs_list : list_fits list ≡ false → inputs_ruling list block st ≡ Stop (refuse ListLength 0)
+    inputs_list k = inputs_read h ∙ read_list scope.Store list block st k
+
+    module _ (k : list_fits list ≡ true) where
+      pub inputs_walk : (x : Refusal) → walk_ruling (checks scope.Store [] st) list ≡ Stop x → inputs_ruling list block st ≡ Stop x
+      inputs_walk x e = inputs_read h ∙ read_walk scope.Store list block st k x e
+
+      module _ (e : walk_ruling (checks scope.Store [] st) list ≡ Fine) where
+        pub inputs_block : (length block ≡ stored (records_of list) → ⊥) → inputs_ruling list block st ≡ Stop (refuse BlockLength 0)
+        inputs_block f = inputs_read h ∙ read_block scope.Store list block st k e f
+
+        pub inputs_fine : length block ≡ stored (records_of list) → inputs_ruling list block st ≡ Fine
+        inputs_fine f = inputs_read h ∙ read_fine scope.Store list block st k e f
+
   parts_of_inputs : inputs_ruling list block st ≡ Fine → (length st ≤ store_most) × (read_ruling scope.Store list block st ≡ Fine)
   parts_of_inputs e =
       let a = fine_of_then (need (leb (length st) store_most) TooLong 0) (read_ruling scope.Store list block st) e in
