@@ -1,5 +1,4 @@
 -- `cursors::step` meets its contract. Assumes nothing.
--- the size of both pieces
 use native.Mathlib.Omega.{arith}
 use Rattle.cursors.proofs.Cursors.{within_less, end_most}
 use Rattle.cursors.proofs.step.Goals as goal

@@ -1,6 +1,4 @@
 -- `loose::tidy` meets its contract: refused as the checks say, or the tidy form and the number of its records. Assumes nothing.
--- all checks have passed
--- the records written are those of the tidy form
 use Prim.Native.Nat.{◌/◌}
 use native.Mathlib.Omega.{arith}
 use mathlib.Core.Path.{◌≡◌, sym, ◌∙◌}
@@ -15,6 +13,7 @@ use Rattle.loose.proofs.Accepting.{Accepts, accepts_of_fine, ready_of_accepts}
 use Rattle.loose.proofs.tidy.Goals as goal
 use Rattle.loose.proofs.tidy.Goals.{After-write_tidy-bytes, In-Through}
 
+-- all checks have passed
 fine : (c : In-Through) → let g = c.args in tidy_ruling g.list.now g.store.now (length g.list_area.now) ≡ Fine
 fine c =
     let g = c.args in
@@ -23,6 +22,7 @@ fine c =
 passed : (c : In-Through) → let g = c.args in Accepts g.list.now g.store.now (length g.list_area.now)
 passed c = let g = c.args in accepts_of_fine g.list.now g.store.now (length g.list_area.now) (fine c)
 
+-- the records written are those of the tidy form
 counted : (c : After-write_tidy-bytes) → c.write_tidy-bytes.result / 12 ≡ length (tidy_form c.args.list.now)
 counted c = omega (arith, c.write_tidy-bytes.ensures.length_is, length_encode (tidy_form c.args.list.now))
 
@@ -30,7 +30,10 @@ pub write_tidy-bytes-requires : goal.write_tidy-bytes-requires
 write_tidy-bytes-requires c = ready_of_accepts (passed (goal.at.write_tidy-bytes-requires c).In-Through)
 
 pub overflow_cast-bytes : goal.overflow_cast-bytes
-overflow_cast-bytes c = omega (arith, counted (goal.at.overflow_cast-bytes c).After-write_tidy-bytes, length_tidy (records_of c.args.list.now), (passed (goal.at.overflow_cast-bytes c).In-Through).counted.count_most, (passed (goal.at.overflow_cast-bytes c).In-Through).counted.list_at_most)
+overflow_cast-bytes c =
+    let p = goal.at.overflow_cast-bytes c in
+    let fits = (passed p.In-Through).counted in
+    omega (arith, counted p.After-write_tidy-bytes, length_tidy (records_of c.args.list.now), fits.count_most, fits.list_at_most)
 
 pub returns : goal.returns
 returns c =

@@ -1,5 +1,4 @@
 -- `rebuild::rebuild` meets its contract. Assumes nothing.
--- what check looks at has passed, and the walk's totals are the list's
 use native.Mathlib.Omega.{arith}
 use mathlib.Core.Path.{◌≡◌, sym, ◌∙◌, ap}
 use Rattle.format.specs.declared.Ruling.TheVariants.{Fine}
@@ -12,6 +11,7 @@ use Rattle.show.proofs.Accepting.{readable_of_inputs}
 use Rattle.rebuild.proofs.rebuild.Goals as goal
 use Rattle.rebuild.proofs.rebuild.Goals.{In-Through}
 
+-- what check looks at has passed, and the walk's totals are the list's
 passed : (c : In-Through) → let g = c.args in
     (inputs_ruling g.list.now g.block.now g.store.now ≡ Fine) × (c.in-Through.t ≡ totals (records_of g.list.now))
 passed c =

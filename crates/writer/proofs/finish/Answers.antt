@@ -5,7 +5,7 @@ use mathlib.Core.Path.{◌≡◌, ◌∙◌, ap}
 use mathlib.Core.List.{List}
 use lib.ListN.{length, take}
 use Rattle.format.specs.declared.Record.{Record}
-use Rattle.format.specs.Record.{encode}
+use Rattle.format.specs.Record.{encode, records_of}
 use Rattle.format.specs.Meaning.{stored, block_of}
 use Rattle.format.proofs.Encoding.{length_encode}
 use Rattle.area.specs.Area.{over}
@@ -15,6 +15,19 @@ use Rattle.price.proofs.Bounds.{entries}
 use Rattle.writer.specs.Write.{list_in}
 use Rattle.writer.proofs.Writing.{list_ready, block_ready, written_records, entries_most, block_length, block_most}
 use Rattle.writer.proofs.finish.Goals as goal
+use Rattle.writer.proofs.finish.Goals.{After-write_list-n}
+
+-- the list that was written: its length, its bytes and its records
+length_is : (c : After-write_list-n) → c.write_list-n.result - 0 ≡ length (encode (list_in c.args.list.now c.args.choice.now))
+length_is c = omega (arith, c.write_list-n.ensures.length_is)
+
+bytes_are : (c : After-write_list-n) → take (c.write_list-n.result - 0) c.write_list-n.new.list_area ≡ encode (list_in c.args.list.now c.args.choice.now)
+bytes_are c =
+    let n = c.write_list-n.result - 0 in
+    ap (take n) c.write_list-n.ensures.area_after ∙ front n (encode (list_in c.args.list.now c.args.choice.now)) c.args.list_area.now (length_is c)
+
+records_are : (c : After-write_list-n) → records_of (take (c.write_list-n.result - 0) c.write_list-n.new.list_area) ≡ list_in c.args.list.now c.args.choice.now
+records_are c = let g = c.args in written_records g.list.now g.choice.now g.version.now g.list_area.now g.block_area.now c.requires.writable _ (bytes_are c)
 
 pub write_list-n-requires : goal.write_list-n-requires
 write_list-n-requires c =
@@ -24,33 +37,26 @@ write_list-n-requires c =
 pub write_block-block-requires : goal.write_block-block-requires
 write_block-block-requires c =
     let g = c.args in
-    let l = list_in g.list.now g.choice.now in
-    let n : c.write_list-n.result - 0 ≡ length (encode l) = omega (arith, c.write_list-n.ensures.length_is) in
-    let is = ap (take (c.write_list-n.result - 0)) c.write_list-n.ensures.area_after ∙ front (c.write_list-n.result - 0) (encode l) g.list_area.now n in
-    block_ready g.list.now g.choice.now g.version.now g.list_area.now g.block_area.now c.requires.writable _ is
+    block_ready g.list.now g.choice.now g.version.now g.list_area.now g.block_area.now c.requires.writable _ (bytes_are (goal.at.write_block-block-requires c).After-write_list-n)
 
 pub overflow_cast-stored : goal.overflow_cast-stored
 overflow_cast-stored c =
     let g = c.args in
     let w = c.requires.writable in
-    let l = list_in g.list.now g.choice.now in
-    let n : c.write_list-n.result - 0 ≡ length (encode l) = omega (arith, c.write_list-n.ensures.length_is) in
-    let is = ap (take (c.write_list-n.result - 0)) c.write_list-n.ensures.area_after ∙ front (c.write_list-n.result - 0) (encode l) g.list_area.now n in
-    let bytes : c.write_block-block.result.bytes ≡ length (block_of l g.version.now) = c.write_block-block.ensures.length_is ∙ ap (λ (x : List Record). length (block_of x g.version.now)) (written_records g.list.now g.choice.now g.version.now g.list_area.now g.block_area.now w _ is) in
+    let bytes = c.write_block-block.ensures.length_is ∙ ap (λ (x : List Record). length (block_of x g.version.now)) (records_are (goal.at.overflow_cast-stored c).After-write_list-n) in
     omega (arith, bytes, block_most g.list.now g.choice.now g.version.now g.list_area.now g.block_area.now w, w.version_at_most)
 
 pub cost_by-cost-requires : goal.cost_by-cost-requires
 cost_by-cost-requires c =
     let g = c.args in
     let w = c.requires.writable in
+    let p = (goal.at.cost_by-cost-requires c).After-write_list-n in
     let l = list_in g.list.now g.choice.now in
-    let n : c.write_list-n.result - 0 ≡ length (encode l) = omega (arith, c.write_list-n.ensures.length_is) in
-    let is = ap (take (c.write_list-n.result - 0)) c.write_list-n.ensures.area_after ∙ front (c.write_list-n.result - 0) (encode l) g.list_area.now n in
-    let fresh : c.write_block-block.result.fresh ≡ news l = c.write_block-block.ensures.fresh_is ∙ ap news (written_records g.list.now g.choice.now g.version.now g.list_area.now g.block_area.now w _ is) in
+    let fresh = c.write_block-block.ensures.fresh_is ∙ ap news (records_are p) in
     record {
       rates_fit = c.requires.rates_fit;
-      entries_most = omega (arith, n, length_encode l, entries_most g.list.now g.choice.now g.version.now g.list_area.now g.block_area.now w, w.list_at_most);
-      fresh_most = omega (arith, n, length_encode l, fresh, entries l);
+      entries_most = omega (arith, length_is p, length_encode l, entries_most g.list.now g.choice.now g.version.now g.list_area.now g.block_area.now w, w.list_at_most);
+      fresh_most = omega (arith, length_is p, length_encode l, fresh, entries l);
     }
 
 pub overflow_cast-result : goal.overflow_cast-result
@@ -63,18 +69,16 @@ pub returns : goal.returns
 returns c =
     let g = c.args in
     let w = c.requires.writable in
+    let p = (goal.at.returns c).After-write_list-n in
     let l = list_in g.list.now g.choice.now in
     let out = c.write_list-n in
-    let n : out.result - 0 ≡ length (encode l) = omega (arith, out.ensures.length_is) in
-    let is = ap (take (out.result - 0)) out.ensures.area_after ∙ front (out.result - 0) (encode l) g.list_area.now n in
-    let listed = written_records g.list.now g.choice.now g.version.now g.list_area.now g.block_area.now w _ is in
-    let entries-is : out.result / 12 ≡ length l = omega (arith, n, length_encode l) in
-    let stored_is : c.write_block-block.result.bytes ≡ stored l = c.write_block-block.ensures.length_is ∙ ap (λ (x : List Record). length (block_of x g.version.now)) listed ∙ block_length g.list.now g.choice.now g.version.now g.list_area.now g.block_area.now w in
-    let fresh_is : c.write_block-block.result.fresh ≡ news l = c.write_block-block.ensures.fresh_is ∙ ap news listed in
-    let kept_is : out.result / 12 - c.write_block-block.result.fresh ≡ matches l = omega (arith, entries-is, fresh_is, entries l) in
+    let entries_are : out.result / 12 ≡ length l = omega (arith, length_is p, length_encode l) in
+    let stored_is : c.write_block-block.result.bytes ≡ stored l = c.write_block-block.ensures.length_is ∙ ap (λ (x : List Record). length (block_of x g.version.now)) (records_are p) ∙ block_length g.list.now g.choice.now g.version.now g.list_area.now g.block_area.now w in
+    let fresh_is : c.write_block-block.result.fresh ≡ news l = c.write_block-block.ensures.fresh_is ∙ ap news (records_are p) in
+    let kept_is : out.result / 12 - c.write_block-block.result.fresh ≡ matches l = omega (arith, entries_are, fresh_is, entries l) in
     let cost_is : c.cost_by-cost.result.0 ≡ cost g.rates l = c.cost_by-cost.ensures ∙ rw (kept_is, fresh_is, stored_is) in
     record {
-      answered = rw (cost_is, entries-is, stored_is);
+      answered = rw (cost_is, entries_are, stored_is);
       area_after = out.ensures.area_after;
-      block_after = c.write_block-block.ensures.area_after ∙ ap (λ (x : List Record). over (block_of x g.version.now) g.block_area.now) listed;
+      block_after = c.write_block-block.ensures.area_after ∙ ap (λ (x : List Record). over (block_of x g.version.now) g.block_area.now) (records_are p);
     }
