@@ -1,5 +1,6 @@
 -- The checks of partition and pass, one by one; what inputs that pass them have; and that a well-formed list that was written passes them.
 -- Assumes nothing.
+use Rattle.std.specs.Prelude.{Ok, Err}
 use Prim.Native.Nat.{ℕ, ◌/◌, ◌≤◌}
 use native.Mathlib.Omega.{arith}
 use mathlib.Core.Path.{◌≡◌, refl, sym, ◌∙◌, ap}
@@ -11,10 +12,8 @@ use borrow.Author.Tests.{leb-true, le-leb, eq-eqb, ne_eqb, eqb-true}
 use Rattle.format.specs.declared.Fault.TheVariants as fault
 use Rattle.format.specs.declared.Record.{Record}
 use Rattle.format.specs.declared.Refusal.{Refusal}
-use Rattle.format.specs.declared.Ruling.{Ruling}
-use Rattle.format.specs.declared.Ruling.TheVariants.{Fine, Stop}
+use Rattle.format.specs.Refusal.{Ruling, need, refuse, ◌then◌}
 use Rattle.format.specs.Limits.{version_most, store_most}
-use Rattle.format.specs.Refusal.{need, refuse, ◌then◌}
 use Rattle.format.specs.Record.{list_fits, rows_of, records_of, encode}
 use Rattle.format.specs.Meaning.{whole}
 use Rattle.format.specs.WellFormed.{WellFormed}
@@ -25,7 +24,6 @@ use Rattle.format.proofs.Rebuilding.{whole_agrees}
 use Rattle.walk.specs.declared.Scope.{Scope}
 use Rattle.walk.specs.declared.Scope.TheVariants as scope
 use Rattle.walk.specs.declared.Totals.{Totals}
-use Rattle.walk.specs.declared.Walked.TheVariants.{Through}
 use Rattle.walk.specs.Checks.{checks, walk_ruling, front}
 use Rattle.walk.specs.Walked.{walked}
 use Rattle.walk.proofs.Telling.{fine_of_through}
@@ -40,23 +38,23 @@ use Rattle.admit.specs.Admit.{lengths_fit, areas_fit, first_ruling, rooms_ruling
 -- ---- the list beside version and store
 
 module _ (x : Scope) (list v st : List ℕ) where
-  pub cover_walk : (r : Refusal) → walk_ruling (checks x v st) list ≡ Stop r → cover_ruling x list v st ≡ Stop r
+  pub cover_walk : (r : Refusal) → walk_ruling (checks x v st) list ≡ Err r → cover_ruling x list v st ≡ Err r
   cover_walk r w = rw w
 
-  module _ (w : walk_ruling (checks x v st) list ≡ Fine) where
-    pub cover_short : (whole (records_of list) ≡ length v → ⊥) → cover_ruling x list v st ≡ Stop (refuse fault.Sizes (length (records_of list)))
+  module _ (w : walk_ruling (checks x v st) list ≡ Ok tt) where
+    pub cover_short : (whole (records_of list) ≡ length v → ⊥) → cover_ruling x list v st ≡ Err (refuse fault.Sizes (length (records_of list)))
     cover_short n = rw (w, ne_eqb (whole (records_of list)) (length v) n)
 
-    pub cover_fine : whole (records_of list) ≡ length v → cover_ruling x list v st ≡ Fine
+    pub cover_fine : whole (records_of list) ≡ length v → cover_ruling x list v st ≡ Ok tt
     cover_fine n = rw (w, eq-eqb (whole (records_of list)) (length v) n)
 
 -- what a list has that is fine beside version and store
 pub record Covered (list v st : List ℕ) : Type 0 where
-  pub walk_fine : walk_ruling (checks scope.Version v st) list ≡ Fine
+  pub walk_fine : walk_ruling (checks scope.Version v st) list ≡ Ok tt
   pub whole_is : whole (records_of list) ≡ length v
   pub is_well_formed : WellFormed st (records_of list) v
 
-pub covered_of_fine : (list v st : List ℕ) → cover_ruling scope.Version list v st ≡ Fine → Covered list v st
+pub covered_of_fine : (list v st : List ℕ) → cover_ruling scope.Version list v st ≡ Ok tt → Covered list v st
 covered_of_fine list v st h =
     let parts = fine_of_then (walk_ruling (checks scope.Version v st) list) (need (eqb (whole (records_of list)) (length v)) fault.Sizes (length (records_of list))) h in
     let ends = eqb-true (whole (records_of list)) (length v) (true_of_need _ fault.Sizes (length (records_of list)) parts.1) in
@@ -97,7 +95,7 @@ pub record Fits (price : Price) (list v st : List ℕ) : Type 0 where
   pub list_in_limits : list_fits list ≡ true
   pub counted : Counted list
 
-pub fits_of_first : (price : Price) (list v st : List ℕ) → first_ruling price list v st ≡ Fine → Fits price list v st
+pub fits_of_first : (price : Price) (list v st : List ℕ) → first_ruling price list v st ≡ Ok tt → Fits price list v st
 fits_of_first price list v st h =
     let three = need (list_fits list) fault.ListLength 0 in
     let two = need (lengths_fit v st) fault.TooLong 0 in
@@ -121,11 +119,11 @@ fits_of_first price list v st h =
 module _ (price : Price) (list v st : List ℕ) (c a b : ℕ) where
   -- each part of admitted inputs
   record Passed : Type 0 where
-    first : first_ruling price list v st ≡ Fine
-    rooms : rooms_ruling list v c a b ≡ Fine
-    cover : cover_ruling scope.Version list v st ≡ Fine
+    first : first_ruling price list v st ≡ Ok tt
+    rooms : rooms_ruling list v c a b ≡ Ok tt
+    cover : cover_ruling scope.Version list v st ≡ Ok tt
 
-  passed_of_fine : admit_ruling price list v st c a b ≡ Fine → Passed
+  passed_of_fine : admit_ruling price list v st c a b ≡ Ok tt → Passed
   passed_of_fine h =
       let k = fine_of_then (first_ruling price list v st) (rooms_ruling list v c a b then cover_ruling scope.Version list v st) h in
       let l = fine_of_then (rooms_ruling list v c a b) (cover_ruling scope.Version list v st) k.1 in
@@ -140,10 +138,10 @@ module _ (price : Price) (list v st : List ℕ) (c a b : ℕ) where
     pub covered : Covered list v st
 
   -- an admitted call's areas fit; where they do not, a call is refused, by 9 or what comes before it
-  pub areas_of_fine : admit_ruling price list v st c a b ≡ Fine → areas_fit list v c a b ≡ true
+  pub areas_of_fine : admit_ruling price list v st c a b ≡ Ok tt → areas_fit list v c a b ≡ true
   areas_of_fine h = true_of_need (areas_fit list v c a b) fault.AreaTooShort 0 (passed_of_fine h).rooms
 
-  pub sound_of_fine : admit_ruling price list v st c a b ≡ Fine → Sound
+  pub sound_of_fine : admit_ruling price list v st c a b ≡ Ok tt → Sound
   sound_of_fine h =
       let p = passed_of_fine h in
       let m = areas_most list v c a b (areas_of_fine h) in
@@ -151,10 +149,10 @@ module _ (price : Price) (list v st : List ℕ) (c a b : ℕ) where
 
 -- all checks are passed
 pub record Admitted (price : Price) (list v st : List ℕ) (c a b : ℕ) : Type 0 where
-  pub fine : admit_ruling price list v st c a b ≡ Fine
+  pub fine : admit_ruling price list v st c a b ≡ Ok tt
   pub sound : Sound price list v st c a b
 
-pub admitted_of_through : (price : Price) (list v st : List ℕ) (c a b : ℕ) (t : Totals) → walked (admit_ruling price list v st c a b) (records_of list) ≡ Through t → Admitted price list v st c a b
+pub admitted_of_through : (price : Price) (list v st : List ℕ) (c a b : ℕ) (t : Totals) → walked (admit_ruling price list v st c a b) (records_of list) ≡ Ok t → Admitted price list v st c a b
 admitted_of_through price list v st c a b t h =
     let fine = (fine_of_through (admit_ruling price list v st c a b) (records_of list) t h).0 in
     record { fine = fine; sound = sound_of_fine price list v st c a b fine }
@@ -169,15 +167,15 @@ findings_of_long price list v st x h =
     admit_alike price list v st (length x.choice) (length x.list) (length x.block) (length list / 12) (length list) (length v)
     (h ∙ sym (areas_of_most list v (length list / 12) (length list) (length v) (omega arith) (omega arith) (omega arith)))
 
-pub stop_of_short : (price : Price) (list v st : List ℕ) (c a b : ℕ) → areas_fit list v c a b ≡ false → (x : Refusal) × (admit_ruling price list v st c a b ≡ Stop x)
+pub stop_of_short : (price : Price) (list v st : List ℕ) (c a b : ℕ) → areas_fit list v c a b ≡ false → (x : Refusal) × (admit_ruling price list v st c a b ≡ Err x)
 stop_of_short price list v st c a b h = let x = go (first_ruling price list v st) (cover_ruling scope.Version list v st) in (x.0, rw h x.1)
   where
-    go : (q r : Ruling) → (x : Refusal) × (q then need false fault.AreaTooShort 0 then r ≡ Stop x)
-    go Fine r = (refuse fault.AreaTooShort 0, refl)
-    go (Stop x) r = (x, refl)
+    go : (q r : Ruling) → (x : Refusal) × (q then need false fault.AreaTooShort 0 then r ≡ Err x)
+    go (Ok _) r = (refuse fault.AreaTooShort 0, refl)
+    go (Err x) r = (x, refl)
 
 -- a written list that is well formed is admitted where price, lengths and areas are
 pub fine_of_written : (price : Price) (l : List Record) (v st : List ℕ) (c a b : ℕ) → price_fits price ≡ true → lengths_fit v st ≡ true → length l ≤ 4096
-    → areas_fit (encode l) v c a b ≡ true → WellFormed st l v → admit_ruling price (encode l) v st c a b ≡ Fine
+    → areas_fit (encode l) v c a b ≡ true → WellFormed st l v → admit_ruling price (encode l) v st c a b ≡ Ok tt
 fine_of_written price l v st c a b j k n m w =
     rw (j, k, fits_encode l n, m) (cover_fine scope.Version (encode l) v st (walk_encode v st l w) (ap whole (records_encode l) ∙ whole_agrees st l v w.agrees))

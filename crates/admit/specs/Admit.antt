@@ -2,9 +2,8 @@
 -- Assumes nothing.
 use Rattle.std.specs.Prelude.{ℕ, ◌/◌, ◌≡◌, Bool, true, ◌&&◌, List, eqb, leb, length}
 use Rattle.format.specs.declared.Fault.TheVariants as fault
-use Rattle.format.specs.declared.Ruling.{Ruling}
+use Rattle.format.specs.Refusal.{Ruling, need, ◌then◌}
 use Rattle.format.specs.Limits.{version_most, store_most}
-use Rattle.format.specs.Refusal.{need, ◌then◌}
 use Rattle.format.specs.Record.{list_fits, records_of}
 use Rattle.format.specs.Meaning.{whole}
 use Rattle.walk.specs.declared.Scope.{Scope}

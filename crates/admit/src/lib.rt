@@ -1,14 +1,14 @@
 // The checks that partition, pass, estimate and commit make of their inputs and areas, in their order.
 //
-// Three parts, each a function: price and lengths; the rooms; the list beside version and store. Pool makes the last part of each of its two lists.
+// Three parts: price and lengths; the rooms; the list beside version and store. Pool makes the last part of each of its two lists.
 #![tactic(auto)]
 
 ghost use Rattle.std.specs.Prelude.{◌≡◌};
 ghost use Rattle.format.specs.Record.{records_of};
 ghost use Rattle.walk.specs.Walked.{Lengths, walked};
-ghost use Rattle.admit.specs.Admit.{lengths_fit, areas_fit, first_ruling, rooms_ruling, cover_ruling, admit_ruling};
+ghost use Rattle.admit.specs.Admit.{lengths_fit, areas_fit, first_ruling, cover_ruling, admit_ruling};
 
-use format::{Fault, Ruling};
+use format::{Fault, Ruling, need, need_at};
 use price::Price;
 use walk::{Scope, Walked};
 
@@ -16,61 +16,31 @@ use walk::{Scope, Walked};
 pub fn lengths_fit(version: &[u8], store: &[u8]) -> bool
     ensures { result ≡ lengths_fit version.now store.now }
 {
-    if format::VERSION_MOST < version.len() {
-        return false;
-    }
-    store.len() <= format::STORE_MOST
+    version.len() <= format::VERSION_MOST && store.len() <= format::STORE_MOST
 }
 
-// Whether rooms of these lengths are long enough for choice, list and stored block.
-pub fn areas_fit(
-    list: &[u8],
-    version: &[u8],
-    choice_room: usize,
-    list_room: usize,
-    block_room: usize,
-) -> bool
-    ensures { result ≡ areas_fit list.now version.now choice_room list_room block_room }
+// The lengths of the rooms that are lent for choice, list and stored block.
+#[derive(Clone, Copy, Debug, PartialEq, Eq)]
+pub struct Rooms {
+    pub choice: usize,
+    pub list: usize,
+    pub block: usize,
+}
+
+// Whether the rooms are long enough for choice, list and stored block.
+pub fn areas_fit(list: &[u8], version: &[u8], rooms: Rooms) -> bool
+    ensures { result ≡ areas_fit list.now version.now rooms.choice rooms.list rooms.block }
 {
-    if choice_room < list.len() / 12 {
-        return false;
-    }
-    if list_room < list.len() {
-        return false;
-    }
-    version.len() <= block_room
+    list.len() / 12 <= rooms.choice && list.len() <= rooms.list && version.len() <= rooms.block
 }
 
 // Checks 1, 2 and 3.
 pub fn first_checks(price: Price, list: &[u8], version: &[u8], store: &[u8]) -> Ruling
     ensures { result ≡ first_ruling price list.now version.now store.now }
 {
-    if !price::in_range(price) {
-        return walk::stop(Fault::Price, 0);
-    }
-    if !lengths_fit(version, store) {
-        return walk::stop(Fault::TooLong, 0);
-    }
-    if !checks::list_fits(list) {
-        return walk::stop(Fault::ListLength, 0);
-    }
-    Ruling::Fine
-}
-
-// Check 9.
-fn rooms(
-    list: &[u8],
-    version: &[u8],
-    choice_room: usize,
-    list_room: usize,
-    block_room: usize,
-) -> Ruling
-    ensures { result ≡ rooms_ruling list.now version.now choice_room list_room block_room }
-{
-    if !areas_fit(list, version, choice_room, list_room, block_room) {
-        return walk::stop(Fault::AreaTooShort, 0);
-    }
-    Ruling::Fine
+    need(price::in_range(price), Fault::Price)?;
+    need(lengths_fit(version, store), Fault::TooLong)?;
+    need(checks::list_fits(list), Fault::ListLength)
 }
 
 // Record by record 4 to 8, or those that the scope asks for; then the short end.
@@ -78,35 +48,17 @@ pub fn cover(list: &[u8], version: &[u8], store: &[u8], scope: Scope) -> Walked
     requires { Lengths list.now version.now }
     ensures { result ≡ walked (cover_ruling scope list.now version.now store.now) (records_of list.now) }
 {
-    let w = walk::walk(list, version, store, scope);
-    let Walked::Through(t) = w else {
-        return w;
-    };
-    if format::index(t.whole) != version.len() {
-        return walk::stopped(Fault::Sizes, t.entries);
-    }
-    w
+    let t = walk::walk(list, version, store, scope)?;
+    need_at(t.whole as usize == version.len(), Fault::Sizes, t.entries)?;
+    Ok(t)
 }
 
-// All checks of a call to which rooms of these lengths are lent.
-pub fn admit(
-    price: Price,
-    list: &[u8],
-    version: &[u8],
-    store: &[u8],
-    choice_room: usize,
-    list_room: usize,
-    block_room: usize,
-) -> Walked
-    ensures { result ≡ walked (admit_ruling price list.now version.now store.now choice_room list_room block_room) (records_of list.now) }
+// Price, list, version and store stand by themselves, as they are handed in by the C calls.
+// All checks of a call to which these rooms are lent: the first three, check 9 of the rooms, the list beside version and store.
+pub fn admit(price: Price, list: &[u8], version: &[u8], store: &[u8], rooms: Rooms) -> Walked
+    ensures { result ≡ walked (admit_ruling price list.now version.now store.now rooms.choice rooms.list rooms.block) (records_of list.now) }
 {
-    let first = first_checks(price, list, version, store);
-    if let Ruling::Stop(refusal) = first {
-        return Walked::Stopped(refusal);
-    }
-    let nine = rooms(list, version, choice_room, list_room, block_room);
-    if let Ruling::Stop(refusal) = nine {
-        return Walked::Stopped(refusal);
-    }
+    first_checks(price, list, version, store)?;
+    need(areas_fit(list, version, rooms), Fault::AreaTooShort)?;
     cover(list, version, store, Scope::Version)
 }

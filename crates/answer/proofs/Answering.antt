@@ -5,7 +5,7 @@ use mathlib.Core.Path.{◌≡◌, ◌∙◌, ap}
 use mathlib.Core.List.{List}
 use lib.ListN.{length}
 use borrow.Author.Tests.{lt-ltb, le-ltb}
-use Rattle.format.specs.declared.Answer.{Answer}
+use Rattle.format.specs.Refusal.{Answer}
 use Rattle.answer.specs.Layout.{told_of, given, Answered, lent}
 
 pub answered_short : {a : Answer} {area : List ℕ} → length area < 32 → Answered a area 9 area

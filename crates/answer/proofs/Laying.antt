@@ -5,7 +5,7 @@ use native.Mathlib.Omega.{arith}
 use mathlib.Core.Path.{◌≡◌, ◌∙◌, ap}
 use mathlib.Core.List.{List, ◌++◌}
 use lib.ListN.{length}
-use Rattle.format.specs.declared.Answer.{Answer}
+use Rattle.format.specs.Refusal.{Answer}
 use Rattle.format.specs.Record.{word}
 use Rattle.area.specs.Area.{pasted}
 use Rattle.area.proofs.Pasting.{pasted_append}

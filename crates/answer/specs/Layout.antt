@@ -9,18 +9,16 @@
 --   24      4     looks
 --   28      4     whole length
 -- Assumes nothing.
-use Rattle.std.specs.Prelude.{ℕ, ◌/◌, ◌%◌, ◌≡◌, cond, List, ◌++◌, ltb, length, drop}
-use Rattle.format.specs.declared.Answer.{Answer}
-use Rattle.format.specs.declared.Answer.TheVariants.{Accepted, Refused}
-use Rattle.format.specs.Refusal.{number}
+use Rattle.std.specs.Prelude.{ℕ, ◌/◌, ◌%◌, ◌≡◌, cond, List, ◌++◌, ltb, length, drop, Ok, Err}
+use Rattle.format.specs.Refusal.{Answer, number}
 use Rattle.format.specs.Record.{word}
 use Rattle.answer.specs.declared.Told.{Told}
 
 -- the number and values for each answer (clause 12.5)
 abbrev pub told_of : Answer → Told
-told_of (Accepted x) =
+told_of (Ok x) =
     record { number = 0; place = 0; cost = x.cost; entries = x.entries; stored = x.stored; looks = x.looks; whole = x.whole }
-told_of (Refused r) =
+told_of (Err r) =
     record { number = number r.fault; place = r.place; cost = 0; entries = 0; stored = 0; looks = 0; whole = 0 }
 
 -- the 32 bytes

@@ -6,10 +6,13 @@ ghost use Rattle.format.specs.Record.{word};
 ghost use Rattle.area.specs.Area.{pasted};
 ghost use Rattle.answer.specs.Layout.{told_of, given};
 
-use format::{Answer, Figures};
+use format::Answer;
 
-// The numbers of an answer, in the order of the answer area.
-#[derive(Clone, Copy)]
+// The bytes of an answer area that an answer takes.
+pub const BYTES: usize = 32;
+
+// The numbers of an answer, in the order of the answer area of the C calls.
+#[derive(Clone, Copy, Debug, Default, PartialEq, Eq)]
 pub struct Told {
     pub number: u32,
     pub place: u32,
@@ -20,38 +23,26 @@ pub struct Told {
     pub whole: u32,
 }
 
-// What is told of a call that is accepted: its figures as they are, the cost in 256ths of a disk byte.
-fn tell_accepted(x: Figures) -> Told
-    ensures { result ≡ told_of (Answer.Accepted x) }
-{
-    Told {
-        number: 0,
-        place: 0,
-        cost: x.cost,
-        entries: x.entries,
-        stored: x.stored,
-        looks: x.looks,
-        whole: x.whole,
-    }
-}
+// What is told of an answer: of a call that is accepted its figures as they are, the cost in 256ths of a disk byte.
+impl From<Answer> for Told {
+    ghost from_gives = { λ answer told. told ≡ told_of answer };
 
-// What is told of an answer.
-fn tell(a: Answer) -> Told
-    ensures { result ≡ told_of a }
-{
-    match a {
-        Answer::Accepted(x) => tell_accepted(x),
-        Answer::Refused(r) => {
-            let fault = r.fault;
-            Told {
-                number: format::number_of(fault),
+    fn from(a: Answer) -> Told {
+        match a {
+            Ok(x) => Told {
+                number: 0,
+                place: 0,
+                cost: x.cost,
+                entries: x.entries,
+                stored: x.stored,
+                looks: x.looks,
+                whole: x.whole,
+            },
+            Err(r) => Told {
+                number: u32::from(r.fault),
                 place: r.place,
-                cost: 0,
-                entries: 0,
-                stored: 0,
-                looks: 0,
-                whole: 0,
-            }
+                ..Told::default()
+            },
         }
     }
 }
@@ -61,21 +52,15 @@ fn put_word(area: &mut [u8], at: usize, x: u32)
     requires { at + 4 ≤ length area.old }
     ensures { area.new ≡ pasted at (word x) area.old }
 {
-    let b = [
-        (x % 256) as u8,
-        (x / 256 % 256) as u8,
-        (x / 65536 % 256) as u8,
-        (x / 16777216) as u8,
-    ];
-    area::put(area, at, &b);
+    area::put(area, at, &x.to_le_bytes());
 }
 
-// Writes an answer over the front of an answer area, and returns its number.
+// Writes an answer over the front of an answer area, and returns its number. The cost is two words, as the definition `layout` has it.
 pub fn give(a: Answer, area: &mut [u8]) -> u32
     requires { 32 ≤ length area.old }
     ensures { (result ≡ (told_of a).number) × (area.new ≡ given a area.old) }
 {
-    let t = tell(a);
+    let t = Told::from(a);
     put_word(area, 0, t.number);
     put_word(area, 4, t.place);
     put_word(area, 8, (t.cost % 4294967296) as u32);

@@ -1,32 +1,18 @@
--- Bytes copied into the rest of an area, seen as bytes over the whole area; and bytes copied block by block.
+-- Bytes copied into an area, one by one and block by block.
 -- Assumes nothing.
 use Prim.Native.Nat.{ℕ, ◌+◌, ◌-◌, ◌≤◌, ◌<◌}
 use native.Mathlib.Omega.{arith}
 use mathlib.Core.Path.{◌≡◌, sym, ◌∙◌, ap}
 use mathlib.Core.List.{List, [], ◌∷◌, ◌++◌, append_assoc, append-nil}
-use lib.ListN.{length, take, drop, set, get_or, length-append, length-drop, drop_of_length-le, take-append-drop}
-use lib.Seq.{length-take-le, take_all, take_at, take-length, take-take, take-add, take-append-le, take-append-add, drop-append-add, drop-drop}
+use lib.ListN.{length, take, drop, set, get_or, length-append, length-drop, take-append-drop}
+use lib.Seq.{length-take-le, take_all, take-length, take-take, take-add, take-append-le, take-append-add, drop-append-add, drop-drop}
 use Rattle.std.proofs.lemmas.List.{take-set, drop-set, drop_more}
-use borrow.Rule.Slice.PartMut.{put_mid}
 use Rattle.area.specs.Area.{pasted}
-
--- `last` is what stands behind the place `at` once `src` was copied there
-pub pasted_of_copied : (at : ℕ) (src area last : List ℕ) → at ≤ length area
-    → last ≡ take (length src) src ++ drop (length src) (take (length area - at) (drop at area)) → put_mid at (length area - at) area last ≡ pasted at src area
-pasted_of_copied at src area last h e =
-    let rest : take (length area - at) (drop at area) ≡ drop at area = take_all (length area - at) (drop at area) (omega (arith, length-drop at area)) in
-    let none : drop (length area - at) (drop at area) ≡ [] = drop_of_length-le (drop at area) {i = length area - at} (omega (arith, length-drop at area)) in
-    let behind : last ≡ src ++ drop (at + length src) area = e ∙ rw (rest, take-length src, drop-drop (length src) at area) in
-    rw (behind, none, append-nil, ← append_assoc)
 
 pub pasted_none : (at : ℕ) (d : List ℕ) → d ≡ pasted at [] d
 pasted_none at d =
     let e : at ≡ at + 0 = omega arith in
     sym (take-append-drop at d) ∙ ap (λ (j : ℕ). take at d ++ drop j d) e ∙ ap (λ (p : List ℕ). p ++ drop (at + 0) d) (sym (append-nil (take at d)))
-
--- what was copied to the front of a list
-pub copied_front : (src d last : List ℕ) (n : ℕ) → n ≡ length src → last ≡ take (length src) src ++ drop (length src) d → take n last ≡ src
-copied_front src d last n n_is e = rw (e, take-length src) (take_at src (drop (length src) d) n (sym n_is))
 
 -- one byte is written at its place
 pub pasted_one : (j x : ℕ) (area : List ℕ) → j < length area → set area j x ≡ pasted j (x ∷ []) area

@@ -6,10 +6,6 @@ use Rattle.std.specs.Prelude.{ℕ, ◌+◌, List, ◌++◌, length, take, drop}
 abbrev pub pasted : ℕ → List ℕ → List ℕ → List ℕ
 pasted at s d = (take at d ++ s) ++ drop (at + length s) d
 
--- d with its n bytes from `from` on over those from `to` on
-abbrev pub repeated : ℕ → ℕ → ℕ → List ℕ → List ℕ
-repeated from to n d = pasted to (take n (drop from d)) d
-
 -- d with s over its front: the area begins with s, and bytes beyond are unchanged
 abbrev pub over : List ℕ → List ℕ → List ℕ
 over s d = s ++ drop (length s) d

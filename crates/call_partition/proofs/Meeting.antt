@@ -3,7 +3,7 @@
 use Prim.Native.Nat.{ℕ}
 use mathlib.Core.Path.{◌≡◌}
 use mathlib.Core.List.{List}
-use Rattle.format.specs.declared.Answer.{Answer}
+use Rattle.format.specs.Refusal.{Answer}
 use Rattle.price.specs.declared.Price.{Price}
 use Rattle.area.specs.Area.{Areas}
 use Rattle.call_partition.specs.Partition.{partition_answer, partition_areas, Partitioned}

@@ -1,7 +1,7 @@
 -- The call partition (section 4.7): the answer, and every area after the call, for any inputs.
 -- Assumes nothing.
 use Rattle.std.specs.Prelude.{ℕ, List}
-use Rattle.format.specs.declared.Answer.{Answer}
+use Rattle.format.specs.Refusal.{Answer}
 use Rattle.price.specs.declared.Price.{Price}
 use Rattle.price.specs.Price.{rates_of}
 use Rattle.area.specs.Area.{Areas}

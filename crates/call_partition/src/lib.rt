@@ -5,11 +5,12 @@ ghost use Rattle.std.specs.Prelude.{◌≡◌};
 ghost use Rattle.area.specs.Area.{areas};
 ghost use Rattle.call_partition.specs.Partition.{partition_answer, partition_areas};
 
+use admit::Rooms;
 use format::Answer;
 use price::Price;
-use walk::Walked;
 
 // Partition: the least choice, its list and its stored block, each over the front of its area; nothing is written where it refuses.
+// Its lines are pass's but for the choosing (`call_pass`).
 pub fn partition(
     price: Price,
     list: &[u8],
@@ -22,17 +23,14 @@ pub fn partition(
     ensures answered { result ≡ partition_answer price list.now version.now store.now (areas choice.old list_area.old block_area.old) }
     ensures areas_after { areas choice.new list_area.new block_area.new ≡ partition_areas price list.now version.now store.now (areas choice.old list_area.old block_area.old) }
 {
-    let w = admit::admit(
-        price,
-        list,
-        version,
-        store,
-        choice.len(),
-        list_area.len(),
-        block_area.len(),
-    );
-    let Walked::Through(_totals) = w else {
-        return Answer::Refused(walk::refusal_of(w));
+    let rooms = Rooms {
+        choice: choice.len(),
+        list: list_area.len(),
+        block: block_area.len(),
+    };
+    let w = admit::admit(price, list, version, store, rooms);
+    let Ok(_totals) = w else {
+        return Err(w.unwrap_err());
     };
     let rates = price::rates_of(price);
     sweep::least_choice(rates, list, choice);

@@ -3,8 +3,7 @@
 use Prim.Native.Nat.{ℕ, ◌≤◌}
 use mathlib.Core.Path.{◌≡◌}
 use mathlib.Core.List.{List}
-use Rattle.format.specs.declared.Answer.{Answer}
-use Rattle.format.specs.Refusal.{figures_in}
+use Rattle.format.specs.Refusal.{Answer, figures_in}
 use Rattle.price.specs.declared.Price.{Price}
 use Rattle.area.specs.Area.{Areas}
 use Rattle.call_pass.specs.Pass.{pass_answer, pass_areas, looks_most, PassMade}

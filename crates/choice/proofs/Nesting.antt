@@ -1,6 +1,7 @@
 -- The least choices of a list at two factors are nested: what the lesser's stores, the greater's stores too. For costs are submodular: the lists of what
 -- both of two choices store, and of what either stores, together cost no more than the lists of the two, at any rates.
 -- Assumes nothing.
+use Rattle.std.specs.Prelude.{None}
 use Prim.Native.Nat.{ℕ, zero, suc, ◌+◌, ◌-◌, ◌*◌, ◌≤◌, ◌<◌}
 use native.Mathlib.Omega.{arith}
 use native.Mathlib.Nat.{mul-le-mul_left}
@@ -17,7 +18,6 @@ use Rattle.price.specs.declared.Price.{Price}
 use Rattle.price.specs.declared.Rates.{Rates}
 use Rattle.price.specs.Price.{price_at, rates_of, index_bytes}
 use Rattle.price.proofs.Bounds.{cost_at}
-use Rattle.join.specs.declared.Open.TheVariants.{No}
 use Rattle.join.specs.Join.{goes_on}
 use Rattle.join.proofs.Joining.{stored_tidy}
 use Rattle.choice.specs.Choice.{Bit, keep, store, bit_bytes, Free, only, either, freedom, May, IsChoice, Early, chosen, list_of, cost_of, least}
@@ -117,11 +117,11 @@ module _ (rates : Rates) where
   walk_submodular (r ∷ rs) q a b (c ∷ cs) [] = omega arith
   walk_submodular (r ∷ rs) q a b (c ∷ cs) (d ∷ ds) = omega (arith, step_submodular q r a b c d, walk_submodular rs r c d cs ds)
 
-  first_modular : (r : Record) (c d : Bit) → step rates No r (meet c d) + step rates No r (union c d) ≡ step rates No r c + step rates No r d
+  first_modular : (r : Record) (c d : Bit) → step rates None r (meet c d) + step rates None r (union c d) ≡ step rates None r c + step rates None r d
   first_modular r keep d = refl
   first_modular r store d = omega arith
 
-  start_submodular : (rs : List Record) (c d : List Bit) → walk after (step rates) rs No (meets c d) + walk after (step rates) rs No (unions c d) ≤ walk after (step rates) rs No c + walk after (step rates) rs No d
+  start_submodular : (rs : List Record) (c d : List Bit) → walk after (step rates) rs None (meets c d) + walk after (step rates) rs None (unions c d) ≤ walk after (step rates) rs None c + walk after (step rates) rs None d
   start_submodular [] c d = omega arith
   start_submodular (r ∷ rs) [] d = omega arith
   start_submodular (r ∷ rs) (c ∷ cs) [] = omega arith

@@ -7,8 +7,7 @@ use mathlib.Core.Bool.{true, false}
 use Rattle.format.specs.declared.Record.{Record}
 use Rattle.price.specs.declared.Cost.{Cost}
 use Rattle.price.specs.declared.Rates.{Rates}
-use Rattle.join.specs.declared.Open.{Open}
-use Rattle.join.specs.Open.{follows}
+use Rattle.join.specs.Open.{Open, follows}
 use Rattle.choice.specs.Path.{entry_of, bytes_in, step_most, Adds}
 
 module _ (rates : Rates) (o : Open) (r : Record) (d : Cost) where

@@ -1,16 +1,14 @@
 -- The least path: a cost that is a sum over the records, each one's part by the state before it and its bit; the least such cost, the choice that
 -- has it, and what the two sweeps of the code leave. And the path of a choice's cost.
 -- Assumes nothing.
-use Rattle.std.specs.Prelude.{ℕ, ◌+◌, ◌*◌, ◌≤◌, ◌≡◌, Bool, true, false, cond, List, [], ◌∷◌, leb}
+use Rattle.std.specs.Prelude.{ℕ, ◌+◌, ◌*◌, ◌≤◌, ◌≡◌, Bool, true, false, cond, List, [], ◌∷◌, leb, Some}
 use Rattle.format.specs.declared.Record.{Record}
 use Rattle.format.specs.declared.Record.TheVariants.{New, Match}
 use Rattle.format.specs.Limits.{records_most}
 use Rattle.price.specs.declared.Cost.{Cost}
 use Rattle.price.specs.declared.Rates.{Rates}
 use Rattle.price.specs.Price.{entry_most, storing_most}
-use Rattle.join.specs.declared.Open.{Open}
-use Rattle.join.specs.declared.Open.TheVariants.{One}
-use Rattle.join.specs.Open.{follows}
+use Rattle.join.specs.Open.{Open, follows}
 use Rattle.choice.specs.Choice.{Bit, keep, store, Free, only, either, freedom, chosen_record}
 
 abbrev pub bit_for : Bool → Bit
@@ -63,7 +61,7 @@ module _ {S : Type 0} (after : Record → Bit → S) (step : S → Record → Bi
 -- ---- the cost of a choice: the state is the record before, as its bit leaves it
 
 abbrev pub after : Record → Bit → Open
-after r b = One (chosen_record b r)
+after r b = Some (chosen_record b r)
 
 -- what an entry costs, by its kind, and what its stored bytes cost
 abbrev pub entry_of : Rates → Record → ℕ

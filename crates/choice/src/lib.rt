@@ -10,14 +10,15 @@ use format::Record;
 use join::Open;
 use price::{Cost, Rates};
 
-// A record by its choice byte: a stored match becomes a new record.
+// A record by its choice byte: a stored match becomes a new record. A byte and not an enum, as the C interface hands it in.
 pub fn chosen(record: Record, bit: u8) -> Record
     ensures { result ≡ chosen_record (bit_of bit) «record» }
 {
     if bit == 0 {
-        return record;
+        record
+    } else {
+        Record::New(format::size_of(record))
     }
-    Record::New(format::size_of(record))
 }
 
 // What an entry costs, by its kind.

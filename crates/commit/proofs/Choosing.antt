@@ -1,5 +1,6 @@
 -- Check 12 finds no fault exactly in the bytes of a choice; and its rulings, one by one.
 -- Assumes nothing.
+use Rattle.std.specs.Prelude.{Ok, Err}
 use Prim.Native.Nat.{ℕ, zero, suc, ◌+◌, ◌/◌, ◌≤◌, ◌<◌}
 use native.Mathlib.Omega.{arith}
 use native.Mathlib.Numerals.{add-one}
@@ -13,7 +14,6 @@ use borrow.Author.Tests.{leb-true, eqb-true, eq-eqb, ne_eqb}
 use Rattle.format.specs.declared.Fault.TheVariants as fault
 use Rattle.format.specs.declared.Record.{Record}
 use Rattle.format.specs.declared.Record.TheVariants.{New, Match}
-use Rattle.format.specs.declared.Ruling.TheVariants.{Fine, Stop}
 use Rattle.format.specs.Refusal.{need, refuse, ◌then◌}
 use Rattle.format.specs.Record.{row_at, record_of, records_of, records_from}
 use Rattle.format.proofs.Rulings.{fine_of_then, true_of_need}
@@ -50,7 +50,7 @@ byte_of_bit (Match s a) d h = go a.held d h
 
 -- ---- all bytes
 
-bits_of_bytes : (i : ℕ) (rs : List Record) (bs : List ℕ) → length bs ≡ length rs → bytes_ruling i rs bs ≡ Fine → (c : List Bit) × IsChoice rs c × (bs ≡ bit_bytes c)
+bits_of_bytes : (i : ℕ) (rs : List Record) (bs : List ℕ) → length bs ≡ length rs → bytes_ruling i rs bs ≡ Ok tt → (c : List Bit) × IsChoice rs c × (bs ≡ bit_bytes c)
 bits_of_bytes i [] [] e h = ([], tt, refl)
 bits_of_bytes i [] (b ∷ bs) e h = absurd (omega (arith, e))
 bits_of_bytes i (r ∷ rs) [] e h = absurd (omega (arith, e))
@@ -60,7 +60,7 @@ bits_of_bytes i (r ∷ rs) (b ∷ bs) e h =
     let c = bits_of_bytes (suc i) rs bs (omega (arith, e)) k.1 in
     (d.0 ∷ c.0, (d.1, c.1), ap₂ (λ (x : ℕ) (l : List ℕ). x ∷ l) d.2 c.2)
 
-bytes_of_bits : (i : ℕ) (rs : List Record) (c : List Bit) → IsChoice rs c → bytes_ruling i rs (bit_bytes c) ≡ Fine
+bytes_of_bits : (i : ℕ) (rs : List Record) (c : List Bit) → IsChoice rs c → bytes_ruling i rs (bit_bytes c) ≡ Ok tt
 bytes_of_bits i [] [] h = refl
 bytes_of_bits i [] (b ∷ c) h = absurd h
 bytes_of_bits i (r ∷ rs) [] h = absurd h
@@ -85,24 +85,24 @@ stands list choice c h e =
     }
 
 -- there is a byte for each record
-pub length_of_fine : (list choice : List ℕ) → choice_ruling list choice ≡ Fine → length choice ≡ length (records_of list)
+pub length_of_fine : (list choice : List ℕ) → choice_ruling list choice ≡ Ok tt → length choice ≡ length (records_of list)
 length_of_fine list choice h =
     let k = fine_of_then (need (eqb (length choice) (length (records_of list))) fault.Choice 0) (bytes_ruling 0 (records_of list) choice) h in
     eqb-true (length choice) (length (records_of list)) (true_of_need (eqb (length choice) (length (records_of list))) fault.Choice 0 k.0)
 
-pub choice_of_fine : (list choice : List ℕ) → choice_ruling list choice ≡ Fine → (c : List Bit) × Stands list choice c
+pub choice_of_fine : (list choice : List ℕ) → choice_ruling list choice ≡ Ok tt → (c : List Bit) × Stands list choice c
 choice_of_fine list choice h =
     let k = fine_of_then (need (eqb (length choice) (length (records_of list))) fault.Choice 0) (bytes_ruling 0 (records_of list) choice) h in
     let c = bits_of_bytes 0 (records_of list) choice (length_of_fine list choice h) k.1 in
     (c.0, stands list choice c.0 c.1 c.2)
 
-pub fine_of_choice : (list : List ℕ) (c : List Bit) → IsChoice (records_of list) c → choice_ruling list (bit_bytes c) ≡ Fine
+pub fine_of_choice : (list : List ℕ) (c : List Bit) → IsChoice (records_of list) c → choice_ruling list (bit_bytes c) ≡ Ok tt
 fine_of_choice list c h = rw (eq-eqb (length (bit_bytes c)) (length (records_of list)) (length_bits c ∙ length_choice (records_of list) c h)) (bytes_of_bits 0 (records_of list) c h)
 
 -- ---- the loop: the bytes before record i are fine
 
 module _ (list choice : List ℕ) where
-  pub choice_length : (length choice ≡ length list / 12 → ⊥) → choice_ruling list choice ≡ Stop (refuse fault.Choice 0)
+  pub choice_length : (length choice ≡ length list / 12 → ⊥) → choice_ruling list choice ≡ Err (refuse fault.Choice 0)
   choice_length h = rw (ne_eqb (length choice) (length (records_of list)) (λ e. h (e ∙ length_records_of list)))
 
   pub choice_bytes : length choice ≡ length list / 12 → choice_ruling list choice ≡ bytes_ruling 0 (records_from list (length list / 12) 0) (drop 0 choice)
@@ -115,12 +115,12 @@ module _ (list choice : List ℕ) where
         rw (records_from_next list n i h, drop-cons choice i 0 k)
         (ap (λ (j : ℕ). need (may_have (record_of (row_at list i)) (get_or choice i 0)) fault.Choice i then bytes_ruling j (records_from list n (i + 1)) (drop j choice)) (sym (add-one i)))
 
-    pub bytes_stop : may_have (record_of (row_at list i)) (get_or choice i 0) ≡ false → bytes_ruling i (records_from list n i) (drop i choice) ≡ Stop (refuse fault.Choice i)
+    pub bytes_stop : may_have (record_of (row_at list i)) (get_or choice i 0) ≡ false → bytes_ruling i (records_from list n i) (drop i choice) ≡ Err (refuse fault.Choice i)
     bytes_stop e = bytes_next ∙ rw e
 
     pub bytes_on : may_have (record_of (row_at list i)) (get_or choice i 0) ≡ true
         → bytes_ruling i (records_from list n i) (drop i choice) ≡ bytes_ruling (i + 1) (records_from list n (i + 1)) (drop (i + 1) choice)
     bytes_on e = bytes_next ∙ rw e
 
-  pub bytes_none : (n i : ℕ) → n ≤ i → bytes_ruling i (records_from list n i) (drop i choice) ≡ Fine
+  pub bytes_none : (n i : ℕ) → n ≤ i → bytes_ruling i (records_from list n i) (drop i choice) ≡ Ok tt
   bytes_none n i h = rw (records_from_none list n i h)

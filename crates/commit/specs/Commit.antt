@@ -1,14 +1,11 @@
 -- The call commit (section 4.9, clause 5.12): the list and the stored block of a choice that is handed in, least or not, with their entries, stored
 -- bytes and cost.
 -- Assumes nothing.
-use Rattle.std.specs.Prelude.{ℕ, suc, ◌/◌, ◌≡◌, Bool, cond, List, [], ◌∷◌, eqb, leb, length}
+use Rattle.std.specs.Prelude.{ℕ, suc, ◌/◌, ◌≡◌, Bool, cond, List, [], ◌∷◌, eqb, leb, length, Ok}
 use Rattle.format.specs.declared.Fault.TheVariants as fault
 use Rattle.format.specs.declared.Record.{Record}
 use Rattle.format.specs.declared.Record.TheVariants.{New, Match}
-use Rattle.format.specs.declared.Ruling.{Ruling}
-use Rattle.format.specs.declared.Ruling.TheVariants.{Fine}
-use Rattle.format.specs.declared.Answer.{Answer}
-use Rattle.format.specs.Refusal.{need, ◌then◌, unless_refused}
+use Rattle.format.specs.Refusal.{Ruling, Answer, need, ◌then◌, unless_refused}
 use Rattle.format.specs.Record.{records_of, encode}
 use Rattle.format.specs.Meaning.{block_of}
 use Rattle.price.specs.declared.Price.{Price}
@@ -25,8 +22,8 @@ may_have (Match s a) b = cond a.held (eqb b 0) (leb b 1)
 
 -- the records from record i on, each with its byte; the place is the first that may not have it
 abbrev pub bytes_ruling : ℕ → List Record → List ℕ → Ruling
-bytes_ruling i [] bs = Fine
-bytes_ruling i (r ∷ rs) [] = Fine
+bytes_ruling i [] bs = Ok tt
+bytes_ruling i (r ∷ rs) [] = Ok tt
 bytes_ruling i (r ∷ rs) (b ∷ bs) = need (may_have r b) fault.Choice i then bytes_ruling (suc i) rs bs
 
 -- check 12: one byte for each record, so the length first; then the bytes

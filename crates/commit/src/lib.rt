@@ -5,22 +5,18 @@ ghost use Rattle.std.specs.Prelude.{◌≡◌, ◌≤◌, length};
 ghost use Rattle.format.specs.Limits.{list_most};
 ghost use Rattle.commit.specs.Commit.{may_have, choice_ruling, commit_answer, commit_list, commit_block};
 
-use format::{Answer, Fault, Record, Ruling};
+use admit::Rooms;
+use format::{Answer, Fault, Record, Ruling, need, need_at};
 use price::Price;
-use walk::Walked;
 
-// Whether a record may have a choice byte: 1 for a new one, 0 for a held match, 0 or 1 for another.
+// Whether a record may have a choice byte, as it is handed in: 1 for a new one, 0 for a held match, 0 or 1 for another.
 fn may_have(record: Record, byte: u8) -> bool
     ensures { result ≡ may_have «record» byte }
 {
     match record {
         Record::New(_) => byte == 1,
-        Record::Match(_, source) => {
-            if source.held {
-                return byte == 0;
-            }
-            byte <= 1
-        }
+        Record::Match(_, source) if source.held => byte == 0,
+        Record::Match(_, _) => byte <= 1,
     }
 }
 
@@ -30,17 +26,15 @@ fn check_choice(list: &[u8], choice: &[u8]) -> Ruling
     ensures { result ≡ choice_ruling list.now choice.now }
 {
     let n = list.len() / 12;
-    if choice.len() != n {
-        return walk::stop(Fault::Choice, 0);
+    need(choice.len() == n, Fault::Choice)?;
+    for i in 0..n {
+        need_at(
+            may_have(format::record_at(list, i), choice[i]),
+            Fault::Choice,
+            i as u32,
+        )?;
     }
-    let mut i = 0;
-    while i < n {
-        if !may_have(format::record_at(list, i), choice[i]) {
-            return walk::stop(Fault::Choice, i as u32);
-        }
-        i += 1;
-    }
-    Ruling::Fine
+    Ok(())
 }
 
 // Commit: the list and the stored block of the choice, each over the front of its area, and their figures; nothing is written where it refuses.
@@ -57,21 +51,16 @@ pub fn commit(
     ensures list_after { list_area.new ≡ commit_list price list.now version.now store.now choice.now list_area.old block_area.old }
     ensures block_after { block_area.new ≡ commit_block price list.now version.now store.now choice.now list_area.old block_area.old }
 {
-    let w = admit::admit(
-        price,
-        list,
-        version,
-        store,
-        list.len() / 12,
-        list_area.len(),
-        block_area.len(),
-    );
-    let Walked::Through(_totals) = w else {
-        return Answer::Refused(walk::refusal_of(w));
+    let rooms = Rooms {
+        choice: list.len() / 12,
+        list: list_area.len(),
+        block: block_area.len(),
     };
-    if let Ruling::Stop(refusal) = check_choice(list, choice) {
-        return Answer::Refused(refusal);
-    }
+    let w = admit::admit(price, list, version, store, rooms);
+    let Ok(_totals) = w else {
+        return Err(w.unwrap_err());
+    };
+    check_choice(list, choice)?;
     let rates = price::rates_of(price);
     writer::finish(rates, list, choice, version, list_area, block_area, 0)
 }

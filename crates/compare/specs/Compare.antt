@@ -1,11 +1,8 @@
 -- The call compare (section 4.6): two lists, two stored blocks and one store.
 -- Assumes nothing.
-use Rattle.std.specs.Prelude.{ℕ, Bool, true, false, ◌&&◌, cond, List}
-use Rattle.format.specs.declared.Ruling.{Ruling}
+use Rattle.std.specs.Prelude.{ℕ, Bool, true, false, ◌&&◌, cond, List, Ok}
+use Rattle.format.specs.Refusal.{Ruling, Answer, ◌then◌, answer, entries_only}
 use Rattle.format.specs.declared.Figures.{Figures}
-use Rattle.format.specs.declared.Answer.{Answer}
-use Rattle.format.specs.declared.Answer.TheVariants.{Accepted}
-use Rattle.format.specs.Refusal.{◌then◌, answer, entries_only}
 use Rattle.format.specs.Record.{records_of}
 use Rattle.format.specs.Meaning.{rebuilt}
 use Rattle.format.specs.Origins.{origins, same_origins}
@@ -37,10 +34,10 @@ abbrev pub yes_or_no : Bool → Figures
 yes_or_no same = entries_only (cond same 1 0)
 
 abbrev pub says_yes : Answer
-says_yes = Accepted (yes_or_no true)
+says_yes = Ok (yes_or_no true)
 
 abbrev pub says_no : Answer
-says_no = Accepted (yes_or_no false)
+says_no = Ok (yes_or_no false)
 
 -- it says yes exactly where both rebuild the same bytes, each from the same origin
 abbrev pub compared : List ℕ → List ℕ → List ℕ → List ℕ → List ℕ → Answer

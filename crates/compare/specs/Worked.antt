@@ -1,12 +1,10 @@
 -- Worked examples of compare, as one table: two lists with their stored blocks, and the answer. The store of all is the bytes 65 66 65 66 67.
 -- Assumes nothing.
-use Rattle.std.specs.Prelude.{ℕ, ◌≡◌, List, [], ◌∷◌, map}
+use Rattle.std.specs.Prelude.{ℕ, ◌≡◌, List, [], ◌∷◌, map, Err}
 use Rattle.format.specs.declared.Fault.TheVariants.{Malformed, Adjacent, OutsideStore, BlockLength}
 use Rattle.format.specs.declared.Record.{Record}
 use Rattle.format.specs.declared.Record.TheVariants.{New, Match}
-use Rattle.format.specs.declared.Answer.{Answer}
-use Rattle.format.specs.declared.Answer.TheVariants.{Refused}
-use Rattle.format.specs.Refusal.{refuse}
+use Rattle.format.specs.Refusal.{Answer, refuse}
 use Rattle.format.specs.Record.{free_at, held_at, encode}
 use Rattle.compare.specs.Compare.{says_yes, says_no, compared}
 
@@ -48,11 +46,11 @@ table =
     ∷ worked (Match 5 (free_at 0) ∷ []) [] (Match 4 (free_at 0) ∷ []) [] says_no
     ∷ worked (New 1 ∷ []) (65 ∷ []) (New 1 ∷ Match 1 (free_at 0) ∷ []) (65 ∷ []) says_no
     -- the first list's refusal stands, the second list's being 4 at 0; else the second list's, with its own place
-    ∷ worked (Match 2 (free_at 0) ∷ Match 3 (free_at 3) ∷ []) [] (New 0 ∷ []) [] (Refused (refuse OutsideStore 1))
-    ∷ worked (New 1 ∷ []) [] (New 0 ∷ []) [] (Refused (refuse BlockLength 0))
-    ∷ worked (New 1 ∷ []) (65 ∷ []) (Match 1 (free_at 0) ∷ New 0 ∷ []) [] (Refused (refuse Malformed 1))
-    ∷ worked (New 1 ∷ []) (65 ∷ []) (New 1 ∷ New 1 ∷ []) (65 ∷ 66 ∷ []) (Refused (refuse Adjacent 1))
-    ∷ worked (New 1 ∷ []) (65 ∷ []) (New 1 ∷ []) [] (Refused (refuse BlockLength 0))
+    ∷ worked (Match 2 (free_at 0) ∷ Match 3 (free_at 3) ∷ []) [] (New 0 ∷ []) [] (Err (refuse OutsideStore 1))
+    ∷ worked (New 1 ∷ []) [] (New 0 ∷ []) [] (Err (refuse BlockLength 0))
+    ∷ worked (New 1 ∷ []) (65 ∷ []) (Match 1 (free_at 0) ∷ New 0 ∷ []) [] (Err (refuse Malformed 1))
+    ∷ worked (New 1 ∷ []) (65 ∷ []) (New 1 ∷ New 1 ∷ []) (65 ∷ 66 ∷ []) (Err (refuse Adjacent 1))
+    ∷ worked (New 1 ∷ []) (65 ∷ []) (New 1 ∷ []) [] (Err (refuse BlockLength 0))
     ∷ []
 
 -- an example as the definition has it

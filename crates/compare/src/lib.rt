@@ -6,37 +6,24 @@
 
 ghost use Rattle.std.specs.Prelude.{◌≡◌};
 ghost use Rattle.format.specs.Record.{records_of};
-ghost use Rattle.format.specs.Origins.{origins, same_source, same_origins};
+ghost use Rattle.format.specs.Origins.{origins, same_origins};
 ghost use Rattle.cursors.specs.Cursor.{Checked};
 ghost use Rattle.compare.specs.Compare.{compared};
 ghost use Rattle.compare.specs.Alike.{alike};
 
-use format::{Answer, Record, Source};
-use walk::Walked;
+use cursors::Pair;
+use format::{Answer, Record};
 
-// Whether two matches are drawn from the same address with the same mark.
-fn same_source(a: Source, b: Source) -> bool
-    ensures { result ≡ same_source a b }
-{
-    if a.held == b.held {
-        return a.address == b.address;
-    }
-    false
-}
-
-// Whether two pieces of one size have the same origins.
+// Whether two pieces of one size have the same origins: both new, or drawn from the same address with the same mark. Not `==` of
+// the two, as the definition `alike` compares no sizes.
 fn alike(one: Record, two: Record) -> bool
     ensures { result ≡ alike one two }
 {
-    match one {
-        Record::New(_) => match two {
-            Record::New(_) => true,
-            Record::Match(_, _) => false,
-        },
-        Record::Match(_, a) => match two {
-            Record::New(_) => false,
-            Record::Match(_, b) => same_source(a, b),
-        },
+    match (one, two) {
+        (Record::New(_), Record::New(_)) => true,
+        (Record::Match(_, a), Record::Match(_, b)) => a == b,
+        (Record::New(_), Record::Match(_, _)) => false,
+        (Record::Match(_, _), Record::New(_)) => false,
     }
 }
 
@@ -47,22 +34,17 @@ fn same_origins(first: &[u8], second: &[u8]) -> bool
 {
     let n = first.len() / 12;
     let m = second.len() / 12;
-    let mut x = cursors::front();
-    let mut y = cursors::front();
-    while x.place < n {
-        if m <= y.place {
+    let mut at = Pair::default();
+    while at.first.place < n {
+        if m <= at.second.place {
             return false;
         }
-        let s = cursors::step(first, second, x, y);
-        let one = s.one;
-        let two = s.two;
+        let (one, two) = at.step(first, second);
         if !alike(one, two) {
             return false;
         }
-        x = s.first;
-        y = s.second;
     }
-    m <= y.place
+    m <= at.second.place
 }
 
 // Compare: yes where both lists rebuild the same bytes, each from the same origin.
@@ -76,18 +58,13 @@ pub fn compare(
     ensures answered { result ≡ compared first.now second.now first_block.now second_block.now store.now }
 {
     let v = show::accept(first, first_block, store);
-    let Walked::Through(_first) = v else {
-        return Answer::Refused(walk::refusal_of(v));
+    let Ok(_first) = v else {
+        return Err(v.unwrap_err());
     };
     let w = show::accept(second, second_block, store);
-    let Walked::Through(_second) = w else {
-        return Answer::Refused(walk::refusal_of(w));
+    let Ok(_second) = w else {
+        return Err(w.unwrap_err());
     };
-    if !same_origins(first, second) {
-        return format::entries_only(0);
-    }
-    if words::same(first_block, second_block) {
-        return format::entries_only(1);
-    }
-    format::entries_only(0)
+    let same = same_origins(first, second) && words::same(first_block, second_block);
+    format::entries_only(u32::from(same))
 }

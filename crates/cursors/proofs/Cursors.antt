@@ -2,7 +2,7 @@
 -- Assumes nothing.
 use Prim.Native.Nat.{ℕ, ◌+◌, ◌/◌, ◌≤◌, ◌<◌}
 use native.Mathlib.Omega.{arith}
-use mathlib.Core.Path.{◌≡◌, sym, ◌∙◌, ap}
+use mathlib.Core.Path.{◌≡◌, sym, ◌∙◌, ap, ap₂}
 use mathlib.Core.Bool.{Bool, true, false, cond}
 use mathlib.Core.List.{List, [], ◌∷◌, ◌++◌}
 use lib.Dec.{ltb}
@@ -15,9 +15,9 @@ use Rattle.format.specs.WellFormed.{Sized, Inside, Readable}
 use Rattle.format.specs.Origins.{origins_of, origins}
 use Rattle.format.proofs.Rows.{records_from_next, records_from_none, records_from_all}
 use Rattle.cursors.specs.declared.Cursor.{Cursor}
-use Rattle.cursors.specs.declared.Pieces.{Pieces}
+use Rattle.cursors.specs.declared.Pair.{Pair}
 use Rattle.cursors.specs.Cut.{lead, cut, without, rest, end_of, Reaching}
-use Rattle.cursors.specs.Cursor.{front, rest_at, remaining, further, behind, moved, Stands, StepReady, piece_size, Stepped, Checked}
+use Rattle.cursors.specs.Cursor.{front, fronts, rest_at, remaining, further, behind, moved, Stands, StepReady, piece_size, Stepped, Checked}
 use Rattle.cursors.proofs.Cutting.{size_lead, size_cut, end_cut, cut_cut, without_none, Rested, rested, reaching_of_inside}
 
 -- ---- what the checks give
@@ -29,6 +29,12 @@ pub checked_of_readable : {list : List ℕ} (block st : List ℕ) → length st 
 checked_of_readable block st m h = checked_of_inside st m h.sized h.inside h.whole_most
 
 -- ---- one cursor
+
+front_is : {x : Cursor} → (x.place ≡ 0) × (x.within ≡ 0) → x ≡ front
+front_is p = ap₂ (λ (k n : ℕ). record { place = k; within = n }) p.0 p.1
+
+pub fronts_are : {at : Pair} → ((at.first.place ≡ 0) × (at.first.within ≡ 0)) × ((at.second.place ≡ 0) × (at.second.within ≡ 0)) → at ≡ fronts
+fronts_are p = ap₂ (λ (x y : Cursor). record { first = x; second = y }) (front_is p.0) (front_is p.1)
 
 pub remaining_front : (list : List ℕ) → remaining list front ≡ records_of list
 remaining_front list = without_none (records_from list (length list / 12) 0) ∙ sym (records_from_all list)
@@ -110,26 +116,26 @@ module _ {list : List ℕ} {c : Cursor} (at : Stands list c) (h : c.place < leng
 
 -- ---- two cursors
 
--- one step: what is known of the pieces, and of the cursors behind them
-pub record Turn (first second : List ℕ) (x y : Cursor) (s : Pieces) : Type 0 where
-  pub at_first : Stands first s.first
-  pub at_second : Stands second s.second
-  pub one_known : origins (remaining first x) ≡ origins_of s.one ++ origins (remaining first s.first)
-  pub two_known : origins (remaining second y) ≡ origins_of s.two ++ origins (remaining second s.second)
-  pub same_size : size_of s.one ≡ size_of s.two
-  pub some : 1 ≤ size_of s.one
-  pub covers : whole (remaining first x) ≡ size_of s.one + whole (remaining first s.first)
-  pub also_covers : whole (remaining second y) ≡ size_of s.two + whole (remaining second s.second)
+-- one step: what is known of the pieces s, and of the cursors behind them
+pub record Turn (first second : List ℕ) (at : Pair) (s : Record × Record) (next : Pair) : Type 0 where
+  pub at_first : Stands first next.first
+  pub at_second : Stands second next.second
+  pub one_known : origins (remaining first at.first) ≡ origins_of s.0 ++ origins (remaining first next.first)
+  pub two_known : origins (remaining second at.second) ≡ origins_of s.1 ++ origins (remaining second next.second)
+  pub same_size : size_of s.0 ≡ size_of s.1
+  pub some : 1 ≤ size_of s.0
+  pub covers : whole (remaining first at.first) ≡ size_of s.0 + whole (remaining first next.first)
+  pub also_covers : whole (remaining second at.second) ≡ size_of s.1 + whole (remaining second next.second)
 
-pub turn : {first second : List ℕ} {x y : Cursor} {s : Pieces} → StepReady first second x y → Stepped first second x y s → Turn first second x y s
-turn {first} {second} {x} {y} {s} r t =
-    let n : ℕ = piece_size first second x y in
-    let p = rest_at first x in
-    let q = rest_at second y in
+pub turn : {first second : List ℕ} {at : Pair} {s : Record × Record} {next : Pair} → StepReady first second at → Stepped first second at s next → Turn first second at s next
+turn {first} {second} {at} {s} {next} r t =
+    let n : ℕ = piece_size first second at in
+    let p = rest_at first at.first in
+    let q = rest_at second at.second in
     let m : n ≤ size_of p = omega arith in
     let i : n ≤ size_of q = omega arith in
-    let size_one : size_of s.one ≡ n = ap size_of t.one_is ∙ size_lead n p in
-    let size_two : size_of s.two ≡ n = ap size_of t.two_is ∙ size_lead n q in
+    let size_one : size_of s.0 ≡ n = ap size_of t.one_is ∙ size_lead n p in
+    let size_two : size_of s.1 ≡ n = ap size_of t.two_is ∙ size_lead n q in
     record {
       at_first = rw t.first_is (stands_moved r.at_first r.goes_on n m);
       at_second = rw t.second_is (stands_moved r.at_second r.also_goes_on n i);
@@ -141,5 +147,5 @@ turn {first} {second} {x} {y} {s} r t =
       also_covers = rw t.second_is (omega (arith, whole_moved r.at_second r.also_goes_on n i, size_two));
     }
 
-pub turn_less : {first second : List ℕ} {x y : Cursor} {s : Pieces} → Turn first second x y s → whole (remaining first s.first) < whole (remaining first x)
+pub turn_less : {first second : List ℕ} {at : Pair} {s : Record × Record} {next : Pair} → Turn first second at s next → whole (remaining first next.first) < whole (remaining first at.first)
 turn_less t = omega (arith, t.covers, t.some)

@@ -8,12 +8,16 @@ use Rattle.format.specs.Record.{row_at, record_of, records_of, records_from}
 use Rattle.format.specs.Meaning.{size_of, whole}
 use Rattle.format.specs.WellFormed.{Sized}
 use Rattle.cursors.specs.declared.Cursor.{Cursor}
-use Rattle.cursors.specs.declared.Pieces.{Pieces}
+use Rattle.cursors.specs.declared.Pair.{Pair}
 use Rattle.cursors.specs.Cut.{lead, cut, without, Reaching}
 
 -- before the first byte of a list
 abbrev pub front : Cursor
 front = record { place = 0; within = 0 }
+
+-- two cursors before the first bytes of their lists
+abbrev pub fronts : Pair
+fronts = record { first = front; second = front }
 
 -- what is left of the cursor's record
 abbrev pub rest_at : List ℕ → Cursor → Record
@@ -41,21 +45,22 @@ pub record Stands (list : List ℕ) (c : Cursor) : Type 0 where
   pub most : c.within + whole (remaining list c) ≤ version_most
 
 -- what a step asks: both cursors have a record
-pub record StepReady (first second : List ℕ) (x y : Cursor) : Type 0 where
-  pub at_first : Stands first x
-  pub at_second : Stands second y
-  pub goes_on : x.place < length first / 12
-  pub also_goes_on : y.place < length second / 12
+pub record StepReady (first second : List ℕ) (at : Pair) : Type 0 where
+  pub at_first : Stands first at.first
+  pub at_second : Stands second at.second
+  pub goes_on : at.first.place < length first / 12
+  pub also_goes_on : at.second.place < length second / 12
 
 -- the size of the pieces: that of the shorter of the two stretches
-abbrev pub piece_size : List ℕ → List ℕ → Cursor → Cursor → ℕ
-piece_size first second x y = min (size_of (rest_at first x)) (size_of (rest_at second y))
+abbrev pub piece_size : List ℕ → List ℕ → Pair → ℕ
+piece_size first second at = min (size_of (rest_at first at.first)) (size_of (rest_at second at.second))
 
-pub record Stepped (first second : List ℕ) (x y : Cursor) (s : Pieces) : Type 0 where
-  pub one_is : s.one ≡ lead (piece_size first second x y) (rest_at first x)
-  pub two_is : s.two ≡ lead (piece_size first second x y) (rest_at second y)
-  pub first_is : s.first ≡ moved (rest_at first x) x (piece_size first second x y)
-  pub second_is : s.second ≡ moved (rest_at second y) y (piece_size first second x y)
+-- the two pieces s, and both cursors behind them
+pub record Stepped (first second : List ℕ) (at : Pair) (s : Record × Record) (next : Pair) : Type 0 where
+  pub one_is : s.0 ≡ lead (piece_size first second at) (rest_at first at.first)
+  pub two_is : s.1 ≡ lead (piece_size first second at) (rest_at second at.second)
+  pub first_is : next.first ≡ moved (rest_at first at.first) at.first (piece_size first second at)
+  pub second_is : next.second ≡ moved (rest_at second at.second) at.second (piece_size first second at)
 
 -- a list that was checked, but for check 5
 pub record Checked (list : List ℕ) : Type 0 where

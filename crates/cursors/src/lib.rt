@@ -1,28 +1,26 @@
 // Two lists side by side: the version cut at the borders of both, piece by piece.
 //
-// In order: a record cut in two; a cursor in a list, and the cursor some bytes further; one step of two cursors.
+// In order: a cursor in a list, and two of them; a record cut in two; the cursor some bytes further; one step of two cursors.
 #![tactic(auto)]
 
-ghost use Rattle.std.specs.Prelude.{◌≡◌, ◌+◌, ◌*◌, ◌≤◌, ◌<◌, min, length};
+ghost use Rattle.std.specs.Prelude.{◌≡◌, ◌+◌, ◌*◌, ◌≤◌, ◌<◌, length};
 ghost use Rattle.format.specs.Record.{row_at, record_of};
 ghost use Rattle.format.specs.Meaning.{size_of};
 ghost use Rattle.cursors.specs.Cut.{lead, cut, end_of};
-ghost use Rattle.cursors.specs.Cursor.{front, rest_at, moved, StepReady, Stepped};
+ghost use Rattle.cursors.specs.Cursor.{rest_at, moved, StepReady, Stepped};
 
 use format::{Record, Source};
 
-// A place in a version, by its list: a record, and how many of its bytes are passed.
-#[derive(Clone, Copy)]
+// A place in a version, by its list: a record, and how many of its bytes are passed. The default is the front of a list.
+#[derive(Clone, Copy, Debug, Default, PartialEq, Eq)]
 pub struct Cursor {
     pub place: usize,
     pub within: u32,
 }
 
-// One step of two cursors: the two pieces, of one size, and both cursors behind them.
-#[derive(Clone, Copy)]
-pub struct Pieces {
-    pub one: Record,
-    pub two: Record,
+// Two cursors, each in a list of its own. The default is the front of both.
+#[derive(Clone, Copy, Debug, Default, PartialEq, Eq)]
+pub struct Pair {
     pub first: Cursor,
     pub second: Cursor,
 }
@@ -47,20 +45,10 @@ fn cut(record: Record, n: u32) -> Record
         Record::Match(size, source) => {
             let on = Source {
                 address: source.address + n,
-                held: source.held,
+                ..source
             };
             Record::Match(size - n, on)
         }
-    }
-}
-
-// The front of a list.
-pub fn front() -> Cursor
-    ensures { result ≡ front }
-{
-    Cursor {
-        place: 0,
-        within: 0,
     }
 }
 
@@ -69,8 +57,7 @@ fn rest_at(list: &[u8], at: Cursor) -> Record
     requires { (12 * at.place + 12 ≤ length list.now) × (at.within ≤ size_of (record_of (row_at list.now at.place))) × (end_of (record_of (row_at list.now at.place)) < 4294967296) }
     ensures { result ≡ rest_at list.now at }
 {
-    let record = format::record_at(list, at.place);
-    cut(record, at.within)
+    cut(format::record_at(list, at.place), at.within)
 }
 
 // The cursor n bytes further, where so much is left of its record.
@@ -90,29 +77,17 @@ fn advance(left: Record, at: Cursor, n: u32) -> Cursor
     }
 }
 
-// The smaller of two numbers.
-fn smaller(a: u32, b: u32) -> u32
-    ensures { result ≡ min a b }
-{
-    if a < b { a } else { b }
-}
-
-// One step of two cursors: pieces of the size of the shorter of the two stretches.
-pub fn step(first: &[u8], second: &[u8], x: Cursor, y: Cursor) -> Pieces
-    requires { StepReady first.now second.now x y }
-    ensures { Stepped first.now second.now x y result }
-{
-    let a = rest_at(first, x);
-    let b = rest_at(second, y);
-    let n = smaller(format::size_of(a), format::size_of(b));
-    let one = lead(a, n);
-    let two = lead(b, n);
-    let next = advance(a, x, n);
-    let after = advance(b, y, n);
-    Pieces {
-        one,
-        two,
-        first: next,
-        second: after,
+impl Pair {
+    // One step: two pieces of the size of the shorter of the two stretches, and both cursors behind them.
+    pub fn step(&mut self, first: &[u8], second: &[u8]) -> (Record, Record)
+        requires { StepReady first.now second.now self.old }
+        ensures { Stepped first.now second.now self.old result self.new }
+    {
+        let a = rest_at(first, self.first);
+        let b = rest_at(second, self.second);
+        let n = format::size_of(a).min(format::size_of(b));
+        self.first = advance(a, self.first, n);
+        self.second = advance(b, self.second, n);
+        (lead(a, n), lead(b, n))
     }
 }

@@ -2,6 +2,7 @@
 --
 -- In order: an accepted call of rebuild; an answer by a test; two lists of which neither is refused; a list beside what was written of it; the store.
 -- Assumes nothing.
+use Rattle.std.specs.Prelude.{Ok, Err}
 use Prim.Native.Nat.{ℕ, ◌/◌}
 use native.Mathlib.Omega.{arith}
 use mathlib.Core.Path.{◌≡◌, refl, sym, ◌∙◌, ap, ap₂}
@@ -11,13 +12,9 @@ use lib.Dec.{eqb, leb, ltb}
 use lib.ListN.{length, take}
 use Rattle.format.specs.declared.Fault.TheVariants.{TooLong, ListLength, BlockLength, AreaTooShort}
 use Rattle.format.specs.declared.Record.{Record}
-use Rattle.format.specs.declared.Ruling.{Ruling}
-use Rattle.format.specs.declared.Ruling.TheVariants.{Fine, Stop}
+use Rattle.format.specs.Refusal.{Ruling, Answer, need, ◌then◌, answer, Accepts, length_only, figures_in}
 use Rattle.format.specs.declared.Figures.{Figures}
-use Rattle.format.specs.declared.Answer.{Answer}
-use Rattle.format.specs.declared.Answer.TheVariants.{Accepted}
 use Rattle.format.specs.Limits.{store_most, version_most}
-use Rattle.format.specs.Refusal.{need, ◌then◌, answer, Accepts, length_only, figures_in}
 use Rattle.format.specs.Record.{list_fits, records_of, encode}
 use Rattle.format.specs.Meaning.{whole, stored, block_of, rebuilt}
 use Rattle.format.specs.Origins.{origins}
@@ -57,10 +54,10 @@ use Rattle.demand.proofs.TidyingHolds.{list_told, inputs_form, same_of_origins, 
 -- ---- an accepted call of rebuild
 
 module _ {list block st : List ℕ} {x : Rebuilding} (h : Rebuilds list block st x) where
-  rebuild_fine : rebuild_ruling list block st x.before ≡ Fine
+  rebuild_fine : rebuild_ruling list block st x.before ≡ Ok tt
   rebuild_fine = fine_of_accepts (rebuild_ruling list block st x.before) (length_only (whole (records_of list))) (rw h.made.answered at h.accepted)
 
-  inputs_fine : inputs_ruling list block st ≡ Fine
+  inputs_fine : inputs_ruling list block st ≡ Ok tt
   inputs_fine = (fine_of_then (inputs_ruling list block st) (need (leb (whole (records_of list)) (length x.before)) AreaTooShort 0) rebuild_fine).0
 
   length_told : (figures_in x.answer).whole ≡ length (version_of list block st)
@@ -73,17 +70,17 @@ module _ {list block st : List ℕ} {x : Rebuilding} (h : Rebuilds list block st
 
 -- ---- an answer by a test
 
-exactly : {a : Answer} {P : Type 0} (t : Bool) → a ≡ Accepted (yes_or_no t) → (P → t ≡ true) → (t ≡ true → P) → Exactly a P
+exactly : {a : Answer} {P : Type 0} (t : Bool) → a ≡ Ok (yes_or_no t) → (P → t ≡ true) → (t ≡ true → P) → Exactly a P
 exactly {a} {P} true e f g = record { yes_where = λ p. e; no_elsewhere = λ d. absurd (d (g refl)) }
-exactly {a} {P} false e f g = record { yes_where = λ p. e ∙ ap (λ (t : Bool). Accepted (yes_or_no t)) (f p); no_elsewhere = λ d. e }
+exactly {a} {P} false e f g = record { yes_where = λ p. e ∙ ap (λ (t : Bool). Ok (yes_or_no t)) (f p); no_elsewhere = λ d. e }
 
 twice : (q : Ruling) (x : Figures) → answer (q then q) x ≡ answer q x
-twice Fine x = refl
-twice (Stop r) x = refl
+twice (Ok _) x = refl
+twice (Err r) x = refl
 
 -- ---- two lists of which neither is refused
 
-neither_refused : (first second block₁ block₂ st : List ℕ) → inputs_ruling first block₁ st ≡ Fine → inputs_ruling second block₂ st ≡ Fine → BothFine first second block₁ block₂ st
+neither_refused : (first second block₁ block₂ st : List ℕ) → inputs_ruling first block₁ st ≡ Ok tt → inputs_ruling second block₂ st ≡ Ok tt → BothFine first second block₁ block₂ st
 neither_refused first second block₁ block₂ st e f = record { first_fine = e; second_fine = f }
 
 -- the test is whether each byte has the same origin in both
@@ -141,10 +138,10 @@ module _ {list st : List ℕ} {x : ListCall} (t : Tidies list st x) (a : Accepts
   beside_tidied = go (inputs_ruling list block st) refl
     where
       go : (q : Ruling) → inputs_ruling list block st ≡ q → compared list (list_out x) block block st ≡ answer (inputs_ruling list block st) (yes_or_no true)
-      go (Stop r) e = rw e
-      go Fine e =
+      go (Err r) e = rw e
+      go (Ok _) e =
           let accepted = rw (sym (list_told t a)) at (inputs_form t a block (readable_of_inputs list block st e).1.block_fits) in
-          by_blocks (neither_refused list (list_out x) block block st e accepted) ∙ ap (λ (s : Bool). Accepted (yes_or_no s)) (and_of_both (same_origins_in list (list_out x)) (same_bytes block block) origins_stay (same_refl block)) ∙ rw e
+          by_blocks (neither_refused list (list_out x) block block st e accepted) ∙ ap (λ (s : Bool). Ok (yes_or_no s)) (and_of_both (same_origins_in list (list_out x)) (same_bytes block block) origins_stay (same_refl block)) ∙ rw e
 
 -- ---- a list beside what was written of it for a choice
 
@@ -154,7 +151,7 @@ bits_eq c d e =
     sym (bits_back c []) ∙ ap₂ (λ (n : ℕ) (t : List ℕ). bits_of n (t ++ [])) (sym (length_bits c) ∙ ap length e ∙ length_bits d) e ∙ bits_back d []
 
 module _ {q : Ruling} {p : Price} {list block st : List ℕ} {x : Call} {y : Rebuilding} {c : List Bit} {looks i a b : ℕ} (h : Rebuilds list block st y)
-    (made : Decided q (rates_of p) list (written_version y) c looks x.before x.answer x.after) (fine : q ≡ Fine) (s : Sound p list (written_version y) st i a b)
+    (made : Decided q (rates_of p) list (written_version y) c looks x.before x.answer x.after) (fine : q ≡ Ok tt) (s : Sound p list (written_version y) st i a b)
     (is_choice : IsChoice (records_of list) c) where
   abbrev v : List ℕ
   v = written_version y
@@ -171,10 +168,10 @@ module _ {q : Ruling} {p : Price} {list block st : List ℕ} {x : Call} {y : Reb
   version_is = ap (λ (k : List Record). rebuilt k (block_of l v) st) (records_encode l) ∙ rebuilt_written s c is_choice
 
   -- the bytes are the same, so it goes by the origins
-  by_origins : compared list (encode l) block (block_of l v) st ≡ Accepted (yes_or_no (same_origins_in list (encode l)))
+  by_origins : compared list (encode l) block (block_of l v) st ≡ Ok (yes_or_no (same_origins_in list (encode l)))
   by_origins =
       compared_fine (neither_refused list (encode l) block (block_of l v) st (inputs_fine h) (inputs_accepted s c is_choice))
-      ∙ ap (λ (t : Bool). Accepted (yes_or_no (t && same_origins_in list (encode l)))) (same_of_eq (version_of list block st) (version_of (encode l) (block_of l v) st) (sym (version_written h) ∙ sym version_is))
+      ∙ ap (λ (t : Bool). Ok (yes_or_no (t && same_origins_in list (encode l)))) (same_of_eq (version_of list block st) (version_of (encode l) (block_of l v) st) (sym (version_written h) ∙ sym version_is))
 
   origins_written : origins (records_of (encode l)) ≡ origins (chosen (records_of list) c)
   origins_written = ap origins (records_encode l) ∙ origins_tidy (chosen (records_of list) c)
@@ -203,9 +200,9 @@ by_length : (first second block₁ block₂ st st' : List ℕ) → length st ≡
 by_length first second block₁ block₂ st st' e = go (inputs_ruling first block₁ st) (inputs_ruling second block₂ st) refl refl
   where
     go : (q k : Ruling) → inputs_ruling first block₁ st ≡ q → inputs_ruling second block₂ st ≡ k → compared first second block₁ block₂ st ≡ compared first second block₁ block₂ st'
-    go (Stop x) k f g = rw (f, sym (inputs_by_length first block₁ st st' e) ∙ f)
-    go Fine (Stop x) f g = rw (f, g, sym (inputs_by_length first block₁ st st' e) ∙ f, sym (inputs_by_length second block₂ st st' e) ∙ g)
-    go Fine Fine f g =
+    go (Err x) k f g = rw (f, sym (inputs_by_length first block₁ st st' e) ∙ f)
+    go (Ok _) (Err x) f g = rw (f, g, sym (inputs_by_length first block₁ st st' e) ∙ f, sym (inputs_by_length second block₂ st st' e) ∙ g)
+    go (Ok _) (Ok _) f g =
         by_blocks (neither_refused first second block₁ block₂ st f g)
         ∙ sym (by_blocks (neither_refused first second block₁ block₂ st' (sym (inputs_by_length first block₁ st st' e) ∙ f) (sym (inputs_by_length second block₂ st st' e) ∙ g)))
 
@@ -223,7 +220,7 @@ comparing_laws =
           rw (same_refl (version_of list block st), origins_self (origins (records_of list))) (twice (inputs_ruling list block st) (yes_or_no true));
       either_order = λ first second block₁ block₂ st e f.
           by_blocks (neither_refused first second block₁ block₂ st e f)
-          ∙ ap₂ (λ (s t : Bool). Accepted (yes_or_no (s && t))) (alike_sym first second) (same_sym block₁ block₂)
+          ∙ ap₂ (λ (s t : Bool). Ok (yes_or_no (s && t))) (alike_sym first second) (same_sym block₁ block₂)
           ∙ sym (by_blocks (neither_refused second first block₂ block₁ st f e));
       of_tidy = λ list block st x t a. beside_tidied t a block;
       of_partition = λ p list block st x y h made a. beside_written h made (decided_fine made a) (sound_of_decided made a) (least_fits (rates_of p) (records_of list));

@@ -1,5 +1,6 @@
 -- Section 8.1 holds of any four calls that meet their contracts, in areas long enough for them.
 -- Assumes nothing.
+use Rattle.std.specs.Prelude.{Ok}
 use Prim.Native.Nat.{ℕ, ◌/◌, ◌≤◌}
 use native.Mathlib.Omega.{arith}
 use mathlib.Core.Path.{◌≡◌, sym, ◌∙◌, ap}
@@ -7,10 +8,7 @@ use mathlib.Core.List.{List}
 use lib.ListN.{length}
 use Rattle.format.specs.declared.Record.{Record}
 use Rattle.format.specs.declared.Figures.{Figures}
-use Rattle.format.specs.declared.Answer.{Answer}
-use Rattle.format.specs.declared.Answer.TheVariants.{Accepted}
-use Rattle.format.specs.declared.Ruling.TheVariants.{Fine}
-use Rattle.format.specs.Refusal.{Accepts, length_only, figures_in}
+use Rattle.format.specs.Refusal.{Answer, Accepts, length_only, figures_in}
 use Rattle.format.specs.Record.{records_of, encode}
 use Rattle.format.specs.Meaning.{whole, block_of}
 use Rattle.price.specs.declared.Price.{Price}
@@ -29,18 +27,18 @@ use Rattle.call_pass.specs.Pass.{pass_choice_of, pass_looks_of}
 use Rattle.demand.specs.Demand.{Calls, written_list, written_block, Made, Room, Demand, DemandThree}
 use Rattle.demand.proofs.WrittenList.{list_is_written, block_is_written, whole_written, version_back, partition_accepts, least_again, list_again}
 
-accepts_of : {a : Answer} {x : Figures} → a ≡ Accepted x → Accepts a
+accepts_of : {a : Answer} {x : Figures} → a ≡ Ok x → Accepts a
 accepts_of e = rw e tt
 
-module _ (price : Price) (list v st : List ℕ) (x : Calls) (made : Made price list v st x) (fine : findings price list v st ≡ Fine) (room : Room list v x) where
+module _ (price : Price) (list v st : List ℕ) (x : Calls) (made : Made price list v st x) (fine : findings price list v st ≡ Ok tt) (room : Room list v x) where
   sound : Sound price list v st (length list / 12) (length list) (length v)
   sound = sound_of_fine price list v st (length list / 12) (length list) (length v) fine
 
   -- partition
-  first_fine : partition_ruling price list v st x.first.before ≡ Fine
+  first_fine : partition_ruling price list v st x.first.before ≡ Ok tt
   first_fine = findings_of_long price list v st x.first.before room.first ∙ fine
 
-  first_answer : x.first.answer ≡ Accepted (figures (rates_of price) (list_of (records_of list) (least_of price list)) 0)
+  first_answer : x.first.answer ≡ Ok (figures (rates_of price) (list_of (records_of list) (least_of price list)) 0)
   first_answer = answer_decided made.first first_fine
 
   whole_least : whole (list_of (records_of list) (least_of price list)) ≡ length v
@@ -56,7 +54,7 @@ module _ (price : Price) (list v st : List ℕ) (x : Calls) (made : Made price l
   rebuilt_made : Rebuilt (encode (list_of (records_of list) (least_of price list))) (block_of (list_of (records_of list) (least_of price list)) v) st x.rebuilt.before x.rebuilt.answer x.rebuilt.after
   rebuilt_made = rw (list_is, block_is) at made.rebuilt
 
-  back : (x.rebuilt.answer ≡ Accepted (length_only (length v))) × (x.rebuilt.after ≡ over v x.rebuilt.before)
+  back : (x.rebuilt.answer ≡ Ok (length_only (length v))) × (x.rebuilt.after ≡ over v x.rebuilt.before)
   back = version_back sound (least_of price list) (least_fits (rates_of price) (records_of list)) rebuilt_made room.rebuilt
 
   -- partition of what it wrote
@@ -66,11 +64,11 @@ module _ (price : Price) (list v st : List ℕ) (x : Calls) (made : Made price l
   again_room : LongEnough (encode (list_of (records_of list) (least_of price list))) v x.again.before
   again_room = rw list_is at room.again
 
-  again_fine : partition_ruling price (encode (list_of (records_of list) (least_of price list))) v st x.again.before ≡ Fine
+  again_fine : partition_ruling price (encode (list_of (records_of list) (least_of price list))) v st x.again.before ≡ Ok tt
   again_fine = partition_accepts sound (least_of price list) (least_fits (rates_of price) (records_of list)) x.again.before again_room
 
-  again_answer : x.again.answer ≡ Accepted (figures (rates_of price) (list_of (records_of list) (least_of price list)) 0)
-  again_answer = answer_decided again_made again_fine ∙ ap (λ (l : List Record). Accepted (figures (rates_of price) l 0)) (list_again price list)
+  again_answer : x.again.answer ≡ Ok (figures (rates_of price) (list_of (records_of list) (least_of price list)) 0)
+  again_answer = answer_decided again_made again_fine ∙ ap (λ (l : List Record). Ok (figures (rates_of price) l 0)) (list_again price list)
 
   again_after : let l = list_of (records_of list) (least_of price list) in x.again.after ≡ laid (keep_all l) l v x.again.before
   again_after =
@@ -80,10 +78,10 @@ module _ (price : Price) (list v st : List ℕ) (x : Calls) (made : Made price l
       ∙ ap (λ (k : List Record). laid (keep_all l) k v x.again.before) (list_again price list)
 
   -- the pass
-  pass_fine : partition_ruling price list v st x.passed.before ≡ Fine
+  pass_fine : partition_ruling price list v st x.passed.before ≡ Ok tt
   pass_fine = findings_of_long price list v st x.passed.before room.passed ∙ fine
 
-  pass_answered : x.passed.answer ≡ Accepted (figures (rates_of price) (list_of (records_of list) (pass_choice_of price list)) (pass_looks_of price list))
+  pass_answered : x.passed.answer ≡ Ok (figures (rates_of price) (list_of (records_of list) (pass_choice_of price list)) (pass_looks_of price list))
   pass_answered = answer_decided made.passed.decided pass_fine
 
   holds : PassHolds (rates_of price) (records_of list)
@@ -120,7 +118,7 @@ pub block_there : (price : Price) (list v st : List ℕ) {before : Areas} {r : A
     → (figures_in r).stored ≤ length after.block
 block_there price list v st {before} d = block_within d in_version
   where
-    in_version : partition_ruling price list v st before ≡ Fine → whole (list_of (records_of list) (least_of price list)) ≤ length v
+    in_version : partition_ruling price list v st before ≡ Ok tt → whole (list_of (records_of list) (least_of price list)) ≤ length v
     in_version fine =
         let s = sound_of_fine price list v st (length before.choice) (length before.list) (length before.block) fine in
         omega (arith, whole_written s (least_of price list) (least_fits (rates_of price) (records_of list)))

@@ -1,5 +1,6 @@
 -- The laws of two factors hold. Each of two lists costs no more than the other at its own factor; so the index bytes fall and the stored bytes grow.
 -- Assumes nothing.
+use Rattle.std.specs.Prelude.{Ok}
 use Prim.Native.Nat.{ℕ, ◌+◌, ◌*◌, ◌/◌, ◌≤◌, ◌<◌}
 use native.Mathlib.Omega.{arith}
 use native.Mathlib.Nat.{mul-le-mul_left, mul-lt-mul_of_pos_left}
@@ -10,10 +11,7 @@ use lib.Dec.{leb}
 use lib.ListN.{length, get_or, get_or-append}
 use borrow.Author.Tests.{leb-true, leb-false}
 use Rattle.format.specs.declared.Record.{Record}
-use Rattle.format.specs.declared.Answer.{Answer}
-use Rattle.format.specs.declared.Ruling.{Ruling}
-use Rattle.format.specs.declared.Ruling.TheVariants.{Fine}
-use Rattle.format.specs.Refusal.{figures_in}
+use Rattle.format.specs.Refusal.{Answer, Ruling, figures_in}
 use Rattle.format.specs.Record.{records_of}
 use Rattle.format.specs.Meaning.{stored}
 use Rattle.format.proofs.Encoding.{records_encode}
@@ -122,7 +120,7 @@ dearer en em f g {list} j k more =
 -- ---- the calls
 
 -- a call that decides for a choice took what the list of that choice takes
-took_decided : {q : Ruling} {rates : Rates} {list v : List ℕ} {c : List Bit} {looks : ℕ} {x : Call} (p : Price) → Decided q rates list v c looks x.before x.answer x.after → q ≡ Fine
+took_decided : {q : Ruling} {rates : Rates} {list v : List ℕ} {c : List Bit} {looks : ℕ} {x : Call} (p : Price) → Decided q rates list v c looks x.before x.answer x.after → q ≡ Ok tt
     → took p x ≡ taken_by p (list_of (records_of list) c)
 took_decided {q} {rates} {list} {v} {c} {looks} {x} p made fine =
     ap₂ (λ (l : List Record) (n : ℕ). record { index = index_bytes p l; stored = n }) (ap records_of (list_is_written made fine) ∙ records_encode (list_of (records_of list) c))

@@ -6,8 +6,7 @@ use mathlib.Core.Path.{◌≡◌, ap}
 use mathlib.Core.List.{List}
 use lib.ListN.{length}
 use Rattle.format.specs.declared.Record.{Record}
-use Rattle.format.specs.declared.Answer.{Answer}
-use Rattle.format.specs.Refusal.{figures_in}
+use Rattle.format.specs.Refusal.{Answer, figures_in}
 use Rattle.format.specs.Record.{encode}
 use Rattle.format.proofs.Encoding.{length_encode}
 use Rattle.area.proofs.Filling.{front}

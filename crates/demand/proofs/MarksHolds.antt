@@ -1,15 +1,14 @@
 -- A held match is kept and stays bound to its address; and the calls that give the mark no meaning answer as if it were not there.
 -- In order: what a record comes to without its mark; the checks; the calls; held matches in partition and pass.
 -- Assumes nothing.
+use Rattle.std.specs.Prelude.{Ok}
 use Prim.Native.Nat.{ℕ, zero, suc, ◌+◌}
 use mathlib.Core.Path.{◌≡◌, refl, ◌∙◌, ap, ap₂}
 use mathlib.Core.List.{List, [], ◌∷◌, ◌++◌}
 use lib.ListN.{length, take, drop, get_or}
 use Rattle.format.specs.declared.Record.{Record}
 use Rattle.format.specs.declared.Record.TheVariants.{New, Match}
-use Rattle.format.specs.declared.Ruling.{Ruling}
-use Rattle.format.specs.declared.Ruling.TheVariants.{Fine}
-use Rattle.format.specs.Refusal.{answer}
+use Rattle.format.specs.Refusal.{Ruling, answer}
 use Rattle.format.specs.Record.{records_of}
 use Rattle.format.specs.Meaning.{whole, stored, rebuilt, part_of, part_at}
 use Rattle.format.specs.Marks.{bare, bares, unmarked, bonds}
@@ -118,7 +117,7 @@ marks_unread =
 -- ---- held matches in partition and pass
 
 -- an accepted call that decides for a choice
-pub held_stay : {q : Ruling} {rates : Rates} {list v : List ℕ} {x : Call} {c : List Bit} {looks : ℕ} → Decided q rates list v c looks x.before x.answer x.after → q ≡ Fine
+pub held_stay : {q : Ruling} {rates : Rates} {list v : List ℕ} {x : Call} {c : List Bit} {looks : ℕ} → Decided q rates list v c looks x.before x.answer x.after → q ≡ Ok tt
     → IsChoice (records_of list) c → HeldStay list v x
 held_stay {q} {rates} {list} {v} {x} {c} {looks} made fine h =
     let l = list_of (records_of list) c in

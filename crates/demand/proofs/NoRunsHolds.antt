@@ -7,7 +7,7 @@ use mathlib.Core.List.{List, [], ◌∷◌}
 use lib.ListN.{length}
 use Rattle.format.specs.declared.Record.{Record}
 use Rattle.format.specs.declared.Record.TheVariants.{New, Match}
-use Rattle.format.specs.declared.Ruling.{Ruling}
+use Rattle.format.specs.Refusal.{Ruling}
 use Rattle.format.specs.Record.{records_of}
 use Rattle.format.specs.Meaning.{size_of}
 use Rattle.price.specs.declared.Rates.{Rates}

@@ -3,6 +3,7 @@
 -- In order: pool beside partition; lists pooled with themselves and with lists of no match; an accepted call of pool, and what it wrote; a list with itself,
 -- refused or not; two lists that each are accepted; the laws.
 -- Assumes nothing.
+use Rattle.std.specs.Prelude.{Ok, Err}
 use Prim.Native.Nat.{ℕ, ◌+◌, ◌≤◌, ◌<◌}
 use native.Mathlib.Omega.{arith}
 use mathlib.Core.Path.{◌≡◌, refl, sym, ◌∙◌, ap}
@@ -15,12 +16,9 @@ use Rattle.format.specs.declared.Fault.TheVariants as fault
 use Rattle.format.specs.declared.Record.{Record}
 use Rattle.format.specs.declared.Record.TheVariants.{New, Match}
 use Rattle.format.specs.declared.Refusal.{Refusal}
-use Rattle.format.specs.declared.Ruling.{Ruling}
-use Rattle.format.specs.declared.Ruling.TheVariants.{Fine, Stop}
+use Rattle.format.specs.Refusal.{Ruling, refuse, need, ◌then◌, answer, unless_refused, Accepts, figures_in, length_only, entries_only}
 use Rattle.format.specs.declared.Figures.{Figures}
-use Rattle.format.specs.declared.Answer.TheVariants.{Accepted, Refused}
 use Rattle.format.specs.Limits.{store_most, list_most, records_most}
-use Rattle.format.specs.Refusal.{refuse, need, ◌then◌, answer, unless_refused, Accepts, figures_in, length_only, entries_only}
 use Rattle.format.specs.Record.{list_fits, records_of, encode}
 use Rattle.format.specs.Meaning.{whole, stored, block_of}
 use Rattle.format.specs.WellFormed.{WellFormed}
@@ -61,18 +59,18 @@ use Rattle.demand.proofs.TidyingHolds.{not_five, writes_form, writes_back}
 
 -- partition's checks, 1 and 9 among them; and those that pool makes of a list, without them
 stop_beside : (t : Bool) (two three : Ruling) (u : Bool) (q k : Ruling) (r : Refusal) → Loosened q k
-    → (need t fault.Price 0 then two then three) then need u fault.AreaTooShort 0 then q ≡ Stop r
-    → (r.fault ≡ fault.Price → ⊥) → (r.fault ≡ fault.AreaTooShort → ⊥) → (r.fault ≡ fault.Adjacent → ⊥) → two then three then k ≡ Stop r
+    → (need t fault.Price 0 then two then three) then need u fault.AreaTooShort 0 then q ≡ Err r
+    → (r.fault ≡ fault.Price → ⊥) → (r.fault ≡ fault.AreaTooShort → ⊥) → (r.fault ≡ fault.Adjacent → ⊥) → two then three then k ≡ Err r
 stop_beside false two three u q k r h e a b c = absurd (a (let z : refuse fault.Price 0 ≡ r = cc in ap (λ (x : Refusal). x.fault) (sym z)))
-stop_beside true (Stop x) three u q k r h e a b c = e
-stop_beside true Fine (Stop x) u q k r h e a b c = e
-stop_beside true Fine Fine false q k r h e a b c = absurd (b (let z : refuse fault.AreaTooShort 0 ≡ r = cc in ap (λ (x : Refusal). x.fault) (sym z)))
-stop_beside true Fine Fine true q k r h e a b c = loosened_stop h e c
+stop_beside true (Err x) three u q k r h e a b c = e
+stop_beside true (Ok _) (Err x) u q k r h e a b c = e
+stop_beside true (Ok _) (Ok _) false q k r h e a b c = absurd (b (let z : refuse fault.AreaTooShort 0 ≡ r = cc in ap (λ (x : Refusal). x.fault) (sym z)))
+stop_beside true (Ok _) (Ok _) true q k r h e a b c = loosened_stop h e c
 
 -- a refusal before what follows
-stop_first : (a b c : Ruling) {r : Refusal} → a then b ≡ Stop r → a then b then c ≡ Stop r
-stop_first (Stop x) b c e = e
-stop_first Fine b c e = rw e
+stop_first : (a b c : Ruling) {r : Refusal} → a then b ≡ Err r → a then b then c ≡ Err r
+stop_first (Err x) b c e = e
+stop_first (Ok _) b c e = rw e
 
 module _ (v st list : List ℕ) where
   abbrev two : Ruling
@@ -87,8 +85,8 @@ module _ (v st list : List ℕ) where
   loosened_cover : Loosened (cover_ruling scope.Version list v st) (cover_ruling scope.LooseVersion list v st)
   loosened_cover = loosened_then (loosened_version v st list) (alike short)
 
-  stop_of_partition : (p : Price) (x : Call) (r : Refusal) → Partitioned p list v st x.before x.answer x.after → x.answer ≡ Refused r
-      → (r.fault ≡ fault.Price → ⊥) → (r.fault ≡ fault.AreaTooShort → ⊥) → (r.fault ≡ fault.Adjacent → ⊥) → two then list_ruling list v st ≡ Stop r
+  stop_of_partition : (p : Price) (x : Call) (r : Refusal) → Partitioned p list v st x.before x.answer x.after → x.answer ≡ Err r
+      → (r.fault ≡ fault.Price → ⊥) → (r.fault ≡ fault.AreaTooShort → ⊥) → (r.fault ≡ fault.Adjacent → ⊥) → two then list_ruling list v st ≡ Err r
   stop_of_partition p x r made e a b c =
       let q = stop_of_refused (partition_ruling p list v st x.before) _ r (sym made.answered ∙ e) in
       stop_beside (price_fits p) two three (areas_fit list v (length x.before.choice) (length x.before.list) (length x.before.block)) (cover_ruling scope.Version list v st) (cover_ruling scope.LooseVersion list v st) r loosened_cover q a b c
@@ -140,7 +138,7 @@ module _ {first second v st : List ℕ} (f : pool.Listed first v st) (s : pool.L
       ∙ gather_origins (records_of second) s.sized
 
 -- a list that pool accepts has no fault for tidy
-tidy_fine : {list v st : List ℕ} (room : ℕ) → lengths_fit v st ≡ true → pool.Listed list v st → length list ≤ room → tidy_ruling list st room ≡ Fine
+tidy_fine : {list v st : List ℕ} (room : ℕ) → lengths_fit v st ≡ true → pool.Listed list v st → length list ≤ room → tidy_ruling list st room ≡ Ok tt
 tidy_fine {list} {v} {st} room lengths l h =
     let most = lengths_most v st lengths in
     rw (le-leb (length st) store_most most.1, l.list_in_limits, le-leb (length list) room h, loose_of_version v st list most.0 l.walk_fine)
@@ -156,7 +154,7 @@ module _ {first second v st : List ℕ} {x : ListCall} (t : Pools first second v
   abbrev l : List Record
   l = pooled_list first second
 
-  fine : pool_ruling first second v st (length x.before) ≡ Fine
+  fine : pool_ruling first second v st (length x.before) ≡ Ok tt
   fine = fine_of_accepts (pool_ruling first second v st (length x.before)) (entries_only (length l)) (rw t.answered at accepted)
 
   passed : pool.Accepts first second v st (length x.before)
@@ -210,11 +208,11 @@ module _ {first second v st : List ℕ} {x : ListCall} (t : Pools first second v
   admitted : (p : Price) (y : Call) → Partitioned p (list_out x) v st y.before y.answer y.after → price_fits p ≡ true → LongEnough (list_out x) v y.before → Accepts y.answer
   admitted p y made fits room = rw (made.answered, list_told, partition_list lengths is_well_formed passed.few p y.before fits (rw list_told at room)) tt
 
-  checked_told : (k : ℕ) → k < (figures_in x.answer).entries → checked (list_out x) (new_bytes v x) st k ≡ Accepted (length_only 0)
+  checked_told : (k : ℕ) → k < (figures_in x.answer).entries → checked (list_out x) (new_bytes v x) st k ≡ Ok (length_only 0)
   checked_told k lt = rw (block_told, list_told, inputs_list lengths is_well_formed passed.few, records_encode l, lt-ltb k (length l) (omega (arith, entries_told)))
 
   rebuilt_told : {y : Rebuilding} → Rebuilt (list_out x) (new_bytes v x) st y.before y.answer y.after → length v ≤ length y.before
-      → (y.answer ≡ Accepted (length_only (length v))) × (y.after ≡ over v y.before)
+      → (y.answer ≡ Ok (length_only (length v))) × (y.after ≡ over v y.before)
   rebuilt_told made room = version_list lengths is_well_formed passed.few (rw (block_told, list_told) at made) room
 
   -- tidy of it; and of a list whose tidy form it is
@@ -229,17 +227,17 @@ module _ {first second v st : List ℕ} {x : ListCall} (t : Pools first second v
 
 -- ---- a list with itself, refused or not
 
-sole_then : (a q t s : Ruling) → (a ≡ Fine → q ≡ Fine → t ≡ s) → a then q then q then t ≡ a then q then s
-sole_then (Stop x) q t s h = refl
-sole_then Fine (Stop x) t s h = refl
-sole_then Fine Fine t s h = h refl refl
+sole_then : (a q t s : Ruling) → (a ≡ Ok tt → q ≡ Ok tt → t ≡ s) → a then q then q then t ≡ a then q then s
+sole_then (Err x) q t s h = refl
+sole_then (Ok _) (Err x) t s h = refl
+sole_then (Ok _) (Ok _) t s h = h refl refl
 
 module _ (list v st : List ℕ) (room : ℕ) where
   abbrev pooled_is : List Record
   pooled_is = pooled_list list list
 
   -- 13 is not said, and 9 by the tidy form
-  sole_end : list_ruling list v st ≡ Fine
+  sole_end : list_ruling list v st ≡ Ok tt
       → need (leb (length pooled_is) records_most) fault.TooManyRecords 0 then need (leb (length (encode pooled_is)) room) fault.AreaTooShort 0 ≡ need (leb (length (encode (tidy_form list))) room) fault.AreaTooShort 0
   sole_end h =
       let k = pool.listed_of_fine list v st h in
@@ -249,16 +247,16 @@ module _ (list v st : List ℕ) (room : ℕ) where
   sole = sole_then (need (lengths_fit v st) fault.TooLong 0) (list_ruling list v st) _ _ (λ e h. sole_end h)
 
   -- accepted, it is the tidy form
-  form_of_fine : pool_ruling list list v st room ≡ Fine → pooled_is ≡ tidy_form list
+  form_of_fine : pool_ruling list list v st room ≡ Ok tt → pooled_is ≡ tidy_form list
   form_of_fine e = form_of_self (pool.first_listed (pool.accepts_of_fine list list v st room e).both)
 
-answer_alike : (q : Ruling) (a b : Figures) → (q ≡ Fine → a ≡ b) → answer q a ≡ answer q b
-answer_alike Fine a b h = ap Accepted (h refl)
-answer_alike (Stop x) a b h = refl
+answer_alike : (q : Ruling) (a b : Figures) → (q ≡ Ok tt → a ≡ b) → answer q a ≡ answer q b
+answer_alike (Ok _) a b h = ap Ok (h refl)
+answer_alike (Err x) a b h = refl
 
-area_alike : (q : Ruling) (a b before : List ℕ) → (q ≡ Fine → a ≡ b) → unless_refused q a before ≡ unless_refused q b before
-area_alike Fine a b before h = h refl
-area_alike (Stop x) a b before h = refl
+area_alike : (q : Ruling) (a b before : List ℕ) → (q ≡ Ok tt → a ≡ b) → unless_refused q a before ≡ unless_refused q b before
+area_alike (Ok _) a b before h = h refl
+area_alike (Err x) a b before h = refl
 
 self_told : (list v st : List ℕ) {x : ListCall} → Pools list list v st x
     → (x.answer ≡ answer (sole_ruling list v st (length x.before)) (entries_only (length (tidy_form list))))
@@ -266,7 +264,7 @@ self_told : (list v st : List ℕ) {x : ListCall} → Pools list list v st x
 self_told list v st {x} t =
     let room = length x.before in
     let q = pool_ruling list list v st room in
-    let form : q ≡ Fine → pooled_list list list ≡ tidy_form list = form_of_fine list v st room in (
+    let form : q ≡ Ok tt → pooled_list list list ≡ tidy_form list = form_of_fine list v st room in (
       t.answered ∙ answer_alike q _ _ (λ e. ap (λ (k : List Record). entries_only (length k)) (form e)) ∙ ap (λ (r : Ruling). answer r (entries_only (length (tidy_form list)))) (sole list v st room),
       t.area_after ∙ area_alike q _ _ x.before (λ e. ap (λ (k : List Record). over (encode k) x.before) (form e))
           ∙ ap (λ (r : Ruling). unless_refused r (over (encode (tidy_form list)) x.before) x.before) (sole list v st room),

@@ -1,5 +1,6 @@
 -- The laws of the estimate and the commitment hold.
 -- Assumes nothing.
+use Rattle.std.specs.Prelude.{Ok, Err}
 use Prim.Native.Nat.{ℕ, ◌/◌, ◌≤◌}
 use native.Mathlib.Omega.{arith}
 use mathlib.Core.Path.{◌≡◌, refl, sym, ◌∙◌, ap, ap₂, subst}
@@ -10,12 +11,8 @@ use lib.Seq.{drop-length}
 use borrow.Author.Tests.{le-leb}
 use Rattle.format.specs.declared.Record.{Record}
 use Rattle.format.specs.declared.Refusal.{Refusal}
-use Rattle.format.specs.declared.Ruling.{Ruling}
-use Rattle.format.specs.declared.Ruling.TheVariants.{Fine, Stop}
+use Rattle.format.specs.Refusal.{Ruling, Answer, Accepts, answer, unless_refused, figures_in, ◌then◌}
 use Rattle.format.specs.declared.Figures.{Figures}
-use Rattle.format.specs.declared.Answer.{Answer}
-use Rattle.format.specs.declared.Answer.TheVariants.{Accepted, Refused}
-use Rattle.format.specs.Refusal.{Accepts, answer, unless_refused, figures_in, ◌then◌}
 use Rattle.format.specs.Record.{records_of, encode}
 use Rattle.format.specs.Meaning.{block_of}
 use Rattle.format.proofs.Rulings.{then_fine, fine_of_then, then_of_fine, fine_of_accepts}
@@ -65,7 +62,7 @@ module _ (p : Price) (list v st : List ℕ) (before : Areas) where
       ))
 
   -- what partition admits the commitment does
-  commit_admits : room list v before ≡ true → partition_ruling p list v st before ≡ Fine → admit_ruling p list v st (length list / 12) (length before.list) (length before.block) ≡ Fine
+  commit_admits : room list v before ≡ true → partition_ruling p list v st before ≡ Ok tt → admit_ruling p list v st (length list / 12) (length before.list) (length before.block) ≡ Ok tt
   commit_admits h fine =
       let c = length before.choice in
       let a = length before.list in
@@ -76,16 +73,16 @@ module _ (p : Price) (list v st : List ℕ) (before : Areas) where
 
 -- what is answered and written
 record Writes (p : Price) (list v : List ℕ) (c : List Bit) (area block : List ℕ) (r : Answer) (area' block' : List ℕ) : Type 0 where
-  answer_is : r ≡ Accepted (figures (rates_of p) (list_of (records_of list) c) 0)
+  answer_is : r ≡ Ok (figures (rates_of p) (list_of (records_of list) c) 0)
   list_is : area' ≡ over (encode (list_of (records_of list) c)) area
   block_is : block' ≡ over (block_of (list_of (records_of list) c) v) block
 
 writes : {p : Price} {list v st choice area block : List ℕ} {r : Answer} {area' block' : List ℕ} {c : List Bit} → Committed p list v st choice area block r area' block'
-    → commit_ruling p list v st choice (length area) (length block) ≡ Fine → Stands list choice c → Writes p list v c area block r area' block'
+    → commit_ruling p list v st choice (length area) (length block) ≡ Ok tt → Stands list choice c → Writes p list v c area block r area' block'
 writes {p} {list} {v} {st} {choice} {area} {block} {r} {area'} {block'} {c} made fine s =
     let listed : list_in list choice ≡ list_of (records_of list) c = ap (list_of (records_of list)) s.bits_are in
     record {
-      answer_is = rw fine at made.answered ∙ ap (λ (l : List Record). Accepted (figures (rates_of p) l 0)) listed;
+      answer_is = rw fine at made.answered ∙ ap (λ (l : List Record). Ok (figures (rates_of p) l 0)) listed;
       list_is = rw fine at made.list_after ∙ ap (λ (l : List Record). over (encode l) area) listed;
       block_is = rw fine at made.block_after ∙ ap (λ (l : List Record). over (block_of l v) block) listed;
     }
@@ -95,10 +92,10 @@ module _ {p : Price} {list v st : List ℕ} {x : Call} (k : Commits p list v st 
   abbrev choice : List ℕ
   choice = x.before.choice
 
-  fine : commit_ruling p list v st choice (length x.before.list) (length x.before.block) ≡ Fine
+  fine : commit_ruling p list v st choice (length x.before.list) (length x.before.block) ≡ Ok tt
   fine = fine_of_accepts (commit_ruling p list v st choice (length x.before.list) (length x.before.block)) (figures (rates_of p) (list_in list choice) 0) (rw k.made.answered at accepted)
 
-  both : (admit_ruling p list v st (length list / 12) (length x.before.list) (length x.before.block) ≡ Fine) × (choice_ruling list choice ≡ Fine)
+  both : (admit_ruling p list v st (length list / 12) (length x.before.list) (length x.before.block) ≡ Ok tt) × (choice_ruling list choice ≡ Ok tt)
   both = fine_of_then (admit_ruling p list v st (length list / 12) (length x.before.list) (length x.before.block)) (choice_ruling list choice) fine
 
   pub sound : Sound p list v st (length list / 12) (length x.before.list) (length x.before.block)
@@ -111,13 +108,13 @@ module _ {p : Price} {list v st : List ℕ} {x : Call} (k : Commits p list v st 
   c = given.0
 
   -- it decides for the choice that it was given, as partition does for the least
-  pub decides : Decided Fine (rates_of p) list v c 0 x.before x.answer x.after
+  pub decides : Decided (Ok tt) (rates_of p) list v c 0 x.before x.answer x.after
   decides =
       let w = writes k.made fine given.1 in
       let there : over (bit_bytes c) choice ≡ choice = ap (over (bit_bytes c)) given.1.bytes_are ∙ ap (λ (l : List ℕ). bit_bytes c ++ l) (drop-length (bit_bytes c)) ∙ append-nil (bit_bytes c) ∙ sym given.1.bytes_are in
       record { answered = w.answer_is; areas_after = areas_eq (k.choice_stays ∙ sym there) w.list_is w.block_is }
 
-  answer_told : x.answer ≡ Accepted (figures (rates_of p) (list_of (records_of list) c) 0)
+  answer_told : x.answer ≡ Ok (figures (rates_of p) (list_of (records_of list) c) 0)
   answer_told = answer_decided decides refl
 
 -- ---- the two calls in turn
@@ -136,12 +133,12 @@ module _ (p : Price) (list v st : List ℕ) (before : Areas) (r : TwoAnswers) (a
   is_choice : IsChoice (records_of list) (least_of p list)
   is_choice = least_fits (rates_of p) (records_of list)
 
-  turn_refused : (x : Refusal) → partition_ruling p list v st before ≡ Stop x → Partitioned p list v st before r.committed after
+  turn_refused : (x : Refusal) → partition_ruling p list v st before ≡ Err x → Partitioned p list v st before r.committed after
   turn_refused x e =
       let none = t.or_none x (rw (alike ∙ e) at t.first.answered) in
       record { answered = rw e none.0; areas_after = rw e (areas_eq (rw (alike ∙ e) at t.first.area_after) none.1 none.2) }
 
-  turn_accepted : partition_ruling p list v st before ≡ Fine → Partitioned p list v st before r.committed after
+  turn_accepted : partition_ruling p list v st before ≡ Ok tt → Partitioned p list v st before r.committed after
   turn_accepted e =
       let chosen : after.choice ≡ over (bit_bytes (least_of p list)) before.choice = rw (alike ∙ e) at t.first.area_after in
       let handed_on = least_handed_on p list before.choice chosen in
@@ -154,8 +151,8 @@ module _ (p : Price) (list v st : List ℕ) (before : Areas) (r : TwoAnswers) (a
   partitioned = go (partition_ruling p list v st before) refl
     where
       go : (q : Ruling) → partition_ruling p list v st before ≡ q → Partitioned p list v st before r.committed after
-      go Fine e = turn_accepted e
-      go (Stop x) e = turn_refused x e
+      go (Ok _) e = turn_accepted e
+      go (Err x) e = turn_refused x e
 
 -- ---- without room
 
@@ -172,7 +169,7 @@ no_room p list v st choice before r area block h made =
     let a = length before.list in
     let b = length before.block in
     let stop = stop_of_short p list v st (length list / 12) a b h in
-    let e : partition_ruling p list v st before ≡ Stop stop.0 = admit_alike p list v st (length before.choice) a b (length list / 12) a b (short_too list v (length before.choice) a b h ∙ sym h) ∙ stop.1 in
+    let e : partition_ruling p list v st before ≡ Err stop.0 = admit_alike p list v st (length before.choice) a b (length list / 12) a b (short_too list v (length before.choice) a b h ∙ sym h) ∙ stop.1 in
     record {
       answered = rw e (rw stop.1 at made.answered);
       areas_after = rw e (areas_eq refl (rw stop.1 at made.list_after) (rw stop.1 at made.block_after));
@@ -181,8 +178,8 @@ no_room p list v st choice before r area block h made =
 -- ---- an estimate beside partition
 
 choice_after : (q : Ruling) (list v : List ℕ) (c : List Bit) (before : Areas) → (decided_areas q list v c before).choice ≡ unless_refused q (over (bit_bytes c) before.choice) before.choice
-choice_after Fine list v c before = refl
-choice_after (Stop x) list v c before = refl
+choice_after (Ok _) list v c before = refl
+choice_after (Err x) list v c before = refl
 
 alike_answers : (p : Price) (list v st : List ℕ) (x : Call) (r : Answer) (after : List ℕ) → room list v x.before ≡ true
     → Partitioned p list v st x.before x.answer x.after → Estimated p list v st x.before.choice r after → (r ≡ x.answer) × (after ≡ x.after.choice)
@@ -243,18 +240,18 @@ module _ (p : Price) (list v st : List ℕ) (before : Areas) where
     two_calls {s} {area} {block} t =
         record { partitioned = partitioned p list v st before (record { estimated = r; committed = s }) (areas choice area block) h t; in_turn = λ e. t; alone = λ e. contrary h e }
 
-    pub estimate_refused : {x : Refusal} → r ≡ Refused x → TwoCalls p list v st before (record { estimated = r; committed = r }) (areas choice before.list before.block)
+    pub estimate_refused : {x : Refusal} → r ≡ Err x → TwoCalls p list v st before (record { estimated = r; committed = r }) (areas choice before.list before.block)
     estimate_refused q = two_calls (record { first = first; second = λ a. absurd (rw q at a); or_none = λ y e. (e, refl, refl) })
 
     -- there is a byte of choice for each record
-    pub choice_there : {f : Figures} → r ≡ Accepted f → length list / 12 ≤ length before.choice
+    pub choice_there : {f : Figures} → r ≡ Ok f → length list / 12 ≤ length before.choice
     choice_there {f} q =
         (sound_of_fine p list v st (length before.choice) (length list) (length v) (estimated_fine first (rw q tt))).in_choice
 
     -- as many bytes as there are records are handed on
-    pub estimate_committed : {m : ℕ} {f : Figures} {s : Answer} {area block : List ℕ} → r ≡ Accepted f → m ≡ length list / 12
+    pub estimate_committed : {m : ℕ} {f : Figures} {s : Answer} {area block : List ℕ} → r ≡ Ok f → m ≡ length list / 12
         → Committed p list v st (take m choice) before.list before.block s area block
-        → TwoCalls p list v st before (record { estimated = Accepted f; committed = s }) (areas choice area block)
+        → TwoCalls p list v st before (record { estimated = Ok f; committed = s }) (areas choice area block)
     estimate_committed {m} {f} {s} {area} {block} q e made =
         subst (λ (a : Answer). TwoCalls p list v st before (record { estimated = a; committed = s }) (areas choice area block)) q
         (two_calls (record { first = first; second = λ a. subst (λ (k : ℕ). Committed p list v st (take k choice) before.list before.block s area block) e made; or_none = λ y x. (cc, cc, cc) }))

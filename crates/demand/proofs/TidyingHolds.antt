@@ -2,6 +2,7 @@
 --
 -- In order: check_loose beside check; an accepted call of tidy, and what it wrote; a list that is tidy already; what another call wrote; the laws; tidying twice.
 -- Assumes nothing.
+use Rattle.std.specs.Prelude.{Ok, Err}
 use Prim.Native.Nat.{ℕ, ◌*◌, ◌≤◌, ◌<◌}
 use native.Mathlib.Omega.{arith}
 use mathlib.Core.Path.{◌≡◌, refl, sym, ◌∙◌, ap, subst}
@@ -13,13 +14,9 @@ use borrow.Author.Tests.{le-leb, lt-ltb}
 use Rattle.format.specs.declared.Fault.TheVariants.{TooLong, ListLength, Adjacent, BlockLength}
 use Rattle.format.specs.declared.Record.{Record}
 use Rattle.format.specs.declared.Refusal.{Refusal}
-use Rattle.format.specs.declared.Ruling.{Ruling}
-use Rattle.format.specs.declared.Ruling.TheVariants.{Fine, Stop}
+use Rattle.format.specs.Refusal.{Ruling, Answer, refuse, need, ◌then◌, Accepts, figures_in, length_only, entries_only}
 use Rattle.format.specs.declared.Figures.{Figures}
-use Rattle.format.specs.declared.Answer.{Answer}
-use Rattle.format.specs.declared.Answer.TheVariants.{Accepted, Refused}
 use Rattle.format.specs.Limits.{store_most}
-use Rattle.format.specs.Refusal.{refuse, need, ◌then◌, Accepts, figures_in, length_only, entries_only}
 use Rattle.format.specs.Record.{list_fits, records_of, encode}
 use Rattle.format.specs.Meaning.{whole, stored, rebuilt}
 use Rattle.format.specs.WellFormed.{Readable}
@@ -62,24 +59,24 @@ use Rattle.demand.proofs.SplitHolds.{sound, given, decides}
 -- ---- check_loose beside check
 
 -- two checks, a walk and the length of the stored block; and the same checks with a walk that is looser, and no stored block
-stop_of_inputs : (a b q k : Ruling) (t : Bool) (r : Refusal) → Loosened q k → a then b then q then need t BlockLength 0 ≡ Stop r → (r.fault ≡ Adjacent → ⊥) → (r.fault ≡ BlockLength → ⊥)
-    → a then b then k ≡ Stop r
-stop_of_inputs (Stop x) b q k t r h e f g = e
-stop_of_inputs Fine (Stop x) q k t r h e f g = e
-stop_of_inputs Fine Fine (Stop x) k t r h e f g = loosened_stop h e f
-stop_of_inputs Fine Fine Fine k true r h e f g = absurd (let z : ◌≡◌ {A = ℕ} 0 1 = cc in omega arith)
-stop_of_inputs Fine Fine Fine k false r h e f g = absurd (g (let z : refuse BlockLength 0 ≡ r = cc in ap (λ (x : Refusal). x.fault) (sym z)))
+stop_of_inputs : (a b q k : Ruling) (t : Bool) (r : Refusal) → Loosened q k → a then b then q then need t BlockLength 0 ≡ Err r → (r.fault ≡ Adjacent → ⊥) → (r.fault ≡ BlockLength → ⊥)
+    → a then b then k ≡ Err r
+stop_of_inputs (Err x) b q k t r h e f g = e
+stop_of_inputs (Ok _) (Err x) q k t r h e f g = e
+stop_of_inputs (Ok _) (Ok _) (Err x) k t r h e f g = loosened_stop h e f
+stop_of_inputs (Ok _) (Ok _) (Ok _) k true r h e f g = absurd (let z : ◌≡◌ {A = ℕ} 0 1 = cc in omega arith)
+stop_of_inputs (Ok _) (Ok _) (Ok _) k false r h e f g = absurd (g (let z : refuse BlockLength 0 ≡ r = cc in ap (λ (x : Refusal). x.fault) (sym z)))
 
-fine_of_inputs : (a b q k c : Ruling) → Loosened q k → a then b then q then c ≡ Fine → a then b then k ≡ Fine
-fine_of_inputs (Stop x) b q k c h e = e
-fine_of_inputs Fine (Stop x) q k c h e = e
-fine_of_inputs Fine Fine (Stop x) k c h e = stop_fine e
-fine_of_inputs Fine Fine Fine k c h e = loosened_fine h refl
+fine_of_inputs : (a b q k c : Ruling) → Loosened q k → a then b then q then c ≡ Ok tt → a then b then k ≡ Ok tt
+fine_of_inputs (Err x) b q k c h e = e
+fine_of_inputs (Ok _) (Err x) q k c h e = e
+fine_of_inputs (Ok _) (Ok _) (Err x) k c h e = stop_fine e
+fine_of_inputs (Ok _) (Ok _) (Ok _) k c h e = loosened_fine h refl
 
 -- a ruling of which this holds is not a stop with that fault
-pub not_five : (q : Ruling) (r : Refusal) → NotFive q → q ≡ Stop r → r.fault ≡ Adjacent → ⊥
-not_five Fine r h e f = stop_fine (sym e)
-not_five (Stop x) r h e f = h (let z : x ≡ r = cc in ap (λ (y : Refusal). y.fault) z ∙ f)
+pub not_five : (q : Ruling) (r : Refusal) → NotFive q → q ≡ Err r → r.fault ≡ Adjacent → ⊥
+not_five (Ok _) r h e f = stop_fine (sym e)
+not_five (Err x) r h e f = h (let z : x ≡ r = cc in ap (λ (y : Refusal). y.fault) z ∙ f)
 
 module _ (list st : List ℕ) where
   abbrev two : Ruling
@@ -96,21 +93,21 @@ module _ (list st : List ℕ) where
       not_five_then two (three then walked) (not_five_need (leb (length st) store_most) TooLong 0 (λ e. omega arith))
       (not_five_then three walked (not_five_need (list_fits list) ListLength 0 (λ e. omega arith)) (not_five_walk [] st list))
 
-  loose_of_check : (block : List ℕ) (r : Refusal) → inputs_ruling list block st ≡ Stop r → (r.fault ≡ Adjacent → ⊥) → (r.fault ≡ BlockLength → ⊥) → loose_ruling list st ≡ Stop r
+  loose_of_check : (block : List ℕ) (r : Refusal) → inputs_ruling list block st ≡ Err r → (r.fault ≡ Adjacent → ⊥) → (r.fault ≡ BlockLength → ⊥) → loose_ruling list st ≡ Err r
   loose_of_check block r e f g =
       stop_of_inputs two three (walk_ruling (checks scope.Store [] st) list) walked (eqb (length block) (stored (records_of list))) r (loosened [] st list) e f g
 
-  loose_of_inputs : (block : List ℕ) → inputs_ruling list block st ≡ Fine → loose_ruling list st ≡ Fine
+  loose_of_inputs : (block : List ℕ) → inputs_ruling list block st ≡ Ok tt → loose_ruling list st ≡ Ok tt
   loose_of_inputs block e =
       fine_of_inputs two three (walk_ruling (checks scope.Store [] st) list) walked (need (eqb (length block) (stored (records_of list))) BlockLength 0) (loosened [] st list) e
 
 -- ---- a call of tidy that finds no fault
 
-pub writes_form : {list st out : List ℕ} {n : ℕ} {y : ListCall} (l : List Record) → Tidies list st y → tidy_ruling list st (length y.before) ≡ Fine → tidy_form list ≡ l → out ≡ encode l → n ≡ length l
+pub writes_form : {list st out : List ℕ} {n : ℕ} {y : ListCall} (l : List Record) → Tidies list st y → tidy_ruling list st (length y.before) ≡ Ok tt → tidy_form list ≡ l → out ≡ encode l → n ≡ length l
     → Writes out n y
 writes_form {y = y} l t fine form out_is n_is =
     record {
-      answered = rw fine at t.answered ∙ ap (λ (k : List Record). Accepted (entries_only (length k))) form ∙ ap (λ (m : ℕ). Accepted (entries_only m)) (sym n_is);
+      answered = rw fine at t.answered ∙ ap (λ (k : List Record). Ok (entries_only (length k))) form ∙ ap (λ (m : ℕ). Ok (entries_only m)) (sym n_is);
       area_after = rw fine at t.area_after ∙ ap (λ (k : List Record). over (encode k) y.before) form ∙ ap (λ (s : List ℕ). over s y.before) (sym out_is);
     }
 
@@ -121,7 +118,7 @@ writes_back {st} {out} {n} {y} l out_is n_is settled few s t room =
     writes_form l t (rw out_is (loose.fine_of_sound l st (length y.before) few (rw out_is at room) s)) (ap tidy_form out_is ∙ ap tidy (records_encode l) ∙ tidy_settled l settled) out_is n_is
 
 module _ {list st : List ℕ} {x : ListCall} (t : Tidies list st x) (accepted : Accepts x.answer) where
-  fine : tidy_ruling list st (length x.before) ≡ Fine
+  fine : tidy_ruling list st (length x.before) ≡ Ok tt
   fine = fine_of_accepts (tidy_ruling list st (length x.before)) (entries_only (length (tidy_form list))) (rw t.answered at accepted)
 
   passed : loose.Accepts list st (length x.before)
@@ -152,21 +149,21 @@ module _ {list st : List ℕ} {x : ListCall} (t : Tidies list st x) (accepted : 
         let s = form_sound in
         record { sized = s.sized; apart = apart_tidy (records_of list); inside = s.inside; whole_most = s.whole_most; block_fits = h ∙ sym (stored_tidy (records_of list)) }
 
-    pub inputs_form : inputs_ruling (encode (tidy_form list)) block st ≡ Fine
+    pub inputs_form : inputs_ruling (encode (tidy_form list)) block st ≡ Ok tt
     inputs_form = inputs_written (tidy_form list) block st form_few form_sound.store_at_most form_readable
 
-    checked_form : (k : ℕ) → k < (figures_in x.answer).entries → checked (list_out x) block st k ≡ Accepted (length_only 0)
+    checked_form : (k : ℕ) → k < (figures_in x.answer).entries → checked (list_out x) block st k ≡ Ok (length_only 0)
     checked_form k lt = rw (list_told, inputs_form, records_encode (tidy_form list), lt-ltb k (length (tidy_form list)) (omega (arith, entries_told)))
 
     rebuilt_form : {y : Rebuilding} → Rebuilt (list_out x) block st y.before y.answer y.after → whole (records_of list) ≤ length y.before
-        → (y.answer ≡ Accepted (length_only (whole (records_of list)))) × (y.after ≡ over (rebuilt (records_of list) block st) y.before)
+        → (y.answer ≡ Ok (length_only (whole (records_of list)))) × (y.after ≡ over (rebuilt (records_of list) block st) y.before)
     rebuilt_form {y} u room =
         let l = tidy_form list in
         let made = rw list_told at u in
         let whole_is : whole (records_of (encode l)) ≡ whole (records_of list) = ap whole (records_encode l) ∙ whole_tidy (records_of list) in
         let rebuilt_is : rebuilt (records_of (encode l)) block st ≡ rebuilt (records_of list) block st = ap (λ (k : List Record). rebuilt k block st) (records_encode l) ∙ rebuilt_tidy (records_of list) block st in
         let accepts = rebuild_fine (encode l) block st y.before inputs_form (omega (arith, whole_is)) in
-        (rw accepts at made.answered ∙ ap (λ (n : ℕ). Accepted (length_only n)) whole_is, rw accepts at made.area_after ∙ ap (λ (v : List ℕ). over v y.before) rebuilt_is)
+        (rw accepts at made.answered ∙ ap (λ (n : ℕ). Ok (length_only n)) whole_is, rw accepts at made.area_after ∙ ap (λ (v : List ℕ). over v y.before) rebuilt_is)
 
 -- ---- two calls of tidy
 
@@ -189,7 +186,7 @@ one_form list₁ list₂ st₁ st₂ x y t a u b =
 -- ---- what a call wrote that decides for a choice
 
 module _ {q : Ruling} {p : Price} {list v st : List ℕ} {c : List Bit} {looks i a b : ℕ} {x : Call} (made : Decided q (rates_of p) list v c looks x.before x.answer x.after)
-    (fine : q ≡ Fine) (s : Sound p list v st i a b) where
+    (fine : q ≡ Ok tt) (s : Sound p list v st i a b) where
   abbrev l : List Record
   l = list_of (records_of list) c
 
@@ -207,7 +204,7 @@ module _ {q : Ruling} {p : Price} {list v st : List ℕ} {c : List Bit} {looks i
   -- and of the list handed in it writes the same, where the choice keeps all
   all_kept : {y : ListCall} → l ≡ tidy_form list → Tidies list st y → length list ≤ length y.before → Writes (written_list x) (figures_in x.answer).entries y
   all_kept {y} e t room =
-      let admitted : tidy_ruling list st (length y.before) ≡ Fine =
+      let admitted : tidy_ruling list st (length y.before) ≡ Ok tt =
       rw (le-leb (length st) store_most s.fits.store_at_most, s.fits.list_in_limits, le-leb (length list) (length y.before) room, loose_of_version v st list s.fits.version_at_most (loosened_fine (loosened_version v st list) s.covered.walk_fine)) in
       writes_form l t admitted (sym e) (list_is_written made fine) entries_are
 
@@ -251,10 +248,10 @@ tidying_laws =
 -- ---- tidying twice, as one function makes it
 
 module _ {list st first first' : List ℕ} {r : Answer} (made : Tidied list st first r first') where
-  pub once_refused : {second : List ℕ} {x : Refusal} → r ≡ Refused x → TwoCalls list st first second (record { once = r; again = r }) first' second
+  pub once_refused : {second : List ℕ} {x : Refusal} → r ≡ Err x → TwoCalls list st first second (record { once = r; again = r }) first' second
   once_refused q = record { once = made; again = λ a. absurd (rw q at a); same = λ a. absurd (rw q at a); or_none = λ y e. (e, refl) }
 
-  module _ {f : Figures} (q : r ≡ Accepted f) where
+  module _ {f : Figures} (q : r ≡ Ok f) where
     abbrev once : ListCall
     once = record { before = first; answer = r; after = first' }
 
@@ -270,12 +267,12 @@ module _ {list st first first' : List ℕ} {r : Answer} (made : Tidied list st f
 
     -- its bytes are handed on
     pub tidied_again : {m : ℕ} {second second' : List ℕ} {s : Answer} → m ≡ 12 * f.entries → Tidied (take m first') st second s second'
-        → TwoCalls list st first second (record { once = Accepted f; again = s }) first' second'
+        → TwoCalls list st first second (record { once = Ok f; again = s }) first' second'
     tidied_again {m} {second} {second'} {s} e u =
         let m_is : m ≡ 12 * (figures_in r).entries = e ∙ ap (λ (a : Answer). 12 * (figures_in a).entries) (sym q) in
         let v : Tidied (list_out once) st second s second' = subst (λ (k : ℕ). Tidied (take k first') st second s second') m_is u in
-        let told : r ≡ Accepted (entries_only (figures_in r).entries) =
-        rw (fine {x = once} made is_accepted) at made.answered ∙ ap (λ (k : ℕ). Accepted (entries_only k)) (sym (entries_told {x = once} made is_accepted)) in
+        let told : r ≡ Ok (entries_only (figures_in r).entries) =
+        rw (fine {x = once} made is_accepted) at made.answered ∙ ap (λ (k : ℕ). Ok (entries_only k)) (sym (entries_told {x = once} made is_accepted)) in
         let both : TwoCalls list st first second (record { once = r; again = s }) first' second' =
         record {
           once = made;

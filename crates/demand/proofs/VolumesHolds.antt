@@ -2,6 +2,7 @@
 --
 -- In order: an accepted call; one chunk more; a volume of one chunk; each chunk by itself; the laws; a deposit.
 -- Assumes nothing.
+use Rattle.std.specs.Prelude.{Ok, Err}
 use Prim.Native.Nat.{ℕ, suc, ◌+◌, ◌≤◌, ◌<◌}
 use native.Mathlib.Omega.{arith}
 use mathlib.Core.Path.{◌≡◌, refl, sym, ◌∙◌, ap, ap₂, subst}
@@ -15,13 +16,9 @@ use Rattle.format.specs.declared.Fault.TheVariants as fault
 use Rattle.format.specs.declared.Row.{Row}
 use Rattle.format.specs.declared.Record.{Record}
 use Rattle.format.specs.declared.Refusal.{Refusal}
-use Rattle.format.specs.declared.Ruling.{Ruling}
-use Rattle.format.specs.declared.Ruling.TheVariants.{Fine, Stop}
+use Rattle.format.specs.Refusal.{Ruling, Answer, refuse, need, ◌then◌, answer, unless_refused, Accepts, figures_in, length_only}
 use Rattle.format.specs.declared.Figures.{Figures}
-use Rattle.format.specs.declared.Answer.{Answer}
-use Rattle.format.specs.declared.Answer.TheVariants.{Accepted, Refused}
 use Rattle.format.specs.Limits.{version_most, store_most, volume_most}
-use Rattle.format.specs.Refusal.{refuse, need, ◌then◌, answer, unless_refused, Accepts, figures_in, length_only}
 use Rattle.format.specs.Record.{is_new, well_formed, rows_of, records_of, encode, list_fits}
 use Rattle.format.specs.Meaning.{whole, stored, block_of, rebuilt}
 use Rattle.format.specs.WellFormed.{WellFormed}
@@ -68,8 +65,8 @@ abbrev ruling_of : Kept → List ℕ → Ruling
 ruling_of k area = volume_ruling k.index k.lists k.blocks area
 
 -- what a call that finds no fault answers and writes
-module _ {k : Kept} {x : Rebuilding} (t : Rebuilds k x) (fine : ruling_of k x.before ≡ Fine) where
-  answer_told : x.answer ≡ Accepted (length_only (length (volume_in k)))
+module _ {k : Kept} {x : Rebuilding} (t : Rebuilds k x) (fine : ruling_of k x.before ≡ Ok tt) where
+  answer_told : x.answer ≡ Ok (length_only (length (volume_in k)))
   answer_told = rw fine at t.answered
 
   area_told : x.after ≡ over (volume_in k) x.before
@@ -81,7 +78,7 @@ module _ {k : Kept} {x : Rebuilding} (t : Rebuilds k x) (fine : ruling_of k x.be
       ∙ filling.front (length (volume_in k)) (volume_in k) x.before refl
 
 module _ {k : Kept} {x : Rebuilding} (t : Rebuilds k x) (a : Accepts x.answer) where
-  accepted_fine : ruling_of k x.before ≡ Fine
+  accepted_fine : ruling_of k x.before ≡ Ok tt
   accepted_fine = fine_of_accepts (ruling_of k x.before) (length_only (length (volume_in k))) (rw t.answered at a)
 
   shown : Fit k.index k.lists k.blocks x.before
@@ -112,7 +109,7 @@ module _ {k : Kept} {x : Rebuilding} (t : Rebuilds k x) (a : Accepts x.answer) {
       ∙ ap (λ (rs : List Record). d ++ rebuilt rs b d) (records_encode l)
       ∙ ap (λ (y : List ℕ). d ++ y) (rebuilt_block d l v w.agrees)
 
-  next_fine : length d + length v ≤ volume_most → chunk_ruling (length d) (chunk (encode l) b) ≡ Fine
+  next_fine : length d + length v ≤ volume_most → chunk_ruling (length d) (chunk (encode l) b) ≡ Ok tt
   next_fine most =
       chunk_written d l b few (
       record {
@@ -124,7 +121,7 @@ module _ {k : Kept} {x : Rebuilding} (t : Rebuilds k x) (a : Accepts x.answer) {
       }
       ) (omega (arith, whole_is))
 
-  all_fine : length d + length v ≤ volume_most → chunks_ruling 0 0 (chunks_in more) ≡ Fine
+  all_fine : length d + length v ≤ volume_most → chunks_ruling 0 0 (chunks_in more) ≡ Ok tt
   all_fine most =
       let sum : 0 + wholes (chunks_in k) ≡ length d = omega (arith, (covered t a).0) in
       ap (chunks_ruling 0 0) (chunks_added (shown t a).fitting (encode l) b)
@@ -134,11 +131,11 @@ module _ {k : Kept} {x : Rebuilding} (t : Rebuilds k x) (a : Accepts x.answer) {
   comes_back y u index_at_most most room =
       let long : length (volume_in more) ≡ length d + length v = ap length longer ∙ length-append d v in
       let fine = fine_of_fit more.index more.lists more.blocks y.before index_at_most (fitting_added (shown t a).fitting (encode l) b) (all_fine most) (omega (arith, long)) in
-      (answer_told u fine ∙ ap (λ (n : ℕ). Accepted (length_only n)) long, area_told u fine ∙ ap (λ (z : List ℕ). over z y.before) longer)
+      (answer_told u fine ∙ ap (λ (n : ℕ). Ok (length_only n)) long, area_told u fine ∙ ap (λ (z : List ℕ). over z y.before) longer)
 
 -- what a call wrote that decides for a choice
 module _ {q : Ruling} {p : Price} {k : Kept} {list v : List ℕ} {c : List Bit} {looks i m n : ℕ} {x : Rebuilding} {y : Call} (t : Rebuilds k x) (a : Accepts x.answer)
-    (made : Decided q (rates_of p) list v c looks y.before y.answer y.after) (fine : q ≡ Fine) (s : Sound p list v (written_volume x) i m n) (h : IsChoice (records_of list) c) where
+    (made : Decided q (rates_of p) list v c looks y.before y.answer y.after) (fine : q ≡ Ok tt) (s : Sound p list v (written_volume x) i m n) (h : IsChoice (records_of list) c) where
   decided_back : ComesBack k (written_volume x) (written_list y) (written_block y) v
   decided_back =
       let told = volume_told t (accepted_fine t a) in
@@ -150,18 +147,18 @@ module _ {q : Ruling} {p : Price} {k : Kept} {list v : List ℕ} {c : List Bit} 
 
 -- the ruling of a chunk, by that of rebuild
 abbrev renamed : Ruling → Ruling
-renamed Fine = Fine
-renamed (Stop r) = Stop (refuse (of_chunk r.fault) 0)
+renamed (Ok _) = Ok tt
+renamed (Err r) = Err (refuse (of_chunk r.fault) 0)
 
 -- the ruling k is q as that of a chunk
 abbrev Renames : Ruling → Ruling → Type 0
 Renames k q = placed 0 k ≡ renamed q
 
-renames_then : (a b c e : Ruling) → Renames a b → (a ≡ Fine → Renames c e) → Renames (a then c) (b then e)
-renames_then Fine Fine c e h k = k refl
-renames_then Fine (Stop y) c e h k = stop_fine (sym h)
-renames_then (Stop x) Fine c e h k = stop_fine h
-renames_then (Stop x) (Stop y) c e h k = h
+renames_then : (a b c e : Ruling) → Renames a b → (a ≡ Ok tt → Renames c e) → Renames (a then c) (b then e)
+renames_then (Ok _) (Ok _) c e h k = k refl
+renames_then (Ok _) (Err y) c e h k = stop_fine (sym h)
+renames_then (Err x) (Ok _) c e h k = stop_fine h
+renames_then (Err x) (Err y) c e h k = h
 
 module _ (s : Seen) (r : Row) where
   abbrev sizes_fit : Bool
@@ -181,8 +178,8 @@ module _ (s : Seen) (r : Row) where
       p = s.place
 
       go : (a b c d e : Bool) → (c ≡ true → d ≡ true)
-          → Renames (need a fault.Malformed p then need b fault.Adjacent p then need c fault.Sizes p then need d fault.VolumeTooLong p then need e fault.OutsideEarlier p then Fine)
-          (need a fault.Malformed p then need b fault.Adjacent p then need c fault.Sizes p then need e fault.OutsideStore p then Fine)
+          → Renames (need a fault.Malformed p then need b fault.Adjacent p then need c fault.Sizes p then need d fault.VolumeTooLong p then need e fault.OutsideEarlier p then Ok tt)
+          (need a fault.Malformed p then need b fault.Adjacent p then need c fault.Sizes p then need e fault.OutsideStore p then Ok tt)
       go false b c d e h = refl
       go true false c d e h = refl
       go true true false d e h = refl
@@ -204,12 +201,12 @@ renamed_nine true = refl
 renamed_nine false = refl
 
 renamed_answer : (q : Ruling) (x : Figures) → answer (renamed q) x ≡ as_chunk (answer q x)
-renamed_answer Fine x = refl
-renamed_answer (Stop r) x = refl
+renamed_answer (Ok _) x = refl
+renamed_answer (Err r) x = refl
 
 renamed_area : (q : Ruling) (x y : List ℕ) → unless_refused (renamed q) x y ≡ unless_refused q x y
-renamed_area Fine x y = refl
-renamed_area (Stop r) x y = refl
+renamed_area (Ok _) x y = refl
+renamed_area (Err r) x y = refl
 
 module _ (list block area : List ℕ) where
   abbrev one : Kept
@@ -238,7 +235,7 @@ module _ (list block area : List ℕ) where
   volume_one : volume_in one ≡ rebuilt (records_of list) block []
   volume_one = volume_added nothing_fits list block
 
-  length_one : ruled_as_chunk ≡ Fine → length (volume_in one) ≡ whole (records_of list)
+  length_one : ruled_as_chunk ≡ Ok tt → length (volume_in one) ≡ whole (records_of list)
   length_one e =
       let f : ChunkFit 0 alone = fit_of_chunk e in
       ap length volume_one ∙ length_rebuilt (records_of list) block [] (fit_inside f [] refl) (omega (arith, f.block_fits))
@@ -251,22 +248,22 @@ module _ (list block area : List ℕ) where
       let chunks : chunks_ruling 0 0 (chunks_in one) ≡ placed 0 ruled_as_chunk = ap (chunks_ruling 0 0) (chunks_added nothing_fits list block) ∙ then_fine (placed 0 ruled_as_chunk) in
       rw (fits, chunks) (go ruled_as_chunk as_list renames_read long enough (λ e. ap (λ (n : ℕ). leb n (length area)) (length_one e)))
     where
-      go : (k q : Ruling) → Renames k q → (t u : Bool) → (k ≡ Fine → t ≡ u) → placed 0 k then need t fault.AreaTooShort 0 ≡ renamed (q then need u fault.AreaTooShort 0)
-      go Fine Fine h t u e = rw (e refl) (renamed_nine u)
-      go Fine (Stop y) h t u e = stop_fine (sym h)
-      go (Stop x) Fine h t u e = stop_fine h
-      go (Stop x) (Stop y) h t u e = h
+      go : (k q : Ruling) → Renames k q → (t u : Bool) → (k ≡ Ok tt → t ≡ u) → placed 0 k then need t fault.AreaTooShort 0 ≡ renamed (q then need u fault.AreaTooShort 0)
+      go (Ok _) (Ok _) h t u e = rw (e refl) (renamed_nine u)
+      go (Ok _) (Err y) h t u e = stop_fine (sym h)
+      go (Err x) (Ok _) h t u e = stop_fine h
+      go (Err x) (Err y) h t u e = h
 
 -- where rebuild finds no fault in list, stored block and store, there is none in the chunk
-fine_of_renamed : (k q : Ruling) → Renames k q → q ≡ Fine → k ≡ Fine
-fine_of_renamed Fine q h e = refl
-fine_of_renamed (Stop x) Fine h e = stop_fine h
-fine_of_renamed (Stop x) (Stop y) h e = stop_fine e
+fine_of_renamed : (k q : Ruling) → Renames k q → q ≡ Ok tt → k ≡ Ok tt
+fine_of_renamed (Ok _) q h e = refl
+fine_of_renamed (Err x) (Ok _) h e = stop_fine h
+fine_of_renamed (Err x) (Err y) h e = stop_fine e
 
 -- the figures matter only where no fault is found
-same_figures : (q : Ruling) {m n : ℕ} → (q ≡ Fine → m ≡ n) → answer q (length_only m) ≡ answer q (length_only n)
-same_figures Fine h = ap (λ (j : ℕ). Accepted (length_only j)) (h refl)
-same_figures (Stop r) h = refl
+same_figures : (q : Ruling) {m n : ℕ} → (q ≡ Ok tt → m ≡ n) → answer q (length_only m) ≡ answer q (length_only n)
+same_figures (Ok _) h = ap (λ (j : ℕ). Ok (length_only j)) (h refl)
+same_figures (Err r) h = refl
 
 as_one_chunk : (list block : List ℕ) (x y : Rebuilding) → Rebuilds (added none list block) x → Rebuilt list block [] y.before y.answer y.after → x.before ≡ y.before
     → (x.answer ≡ as_chunk y.answer) × (x.after ≡ y.after)
@@ -286,7 +283,7 @@ as_one_chunk list block x y t u e =
 -- ---- each chunk by itself
 
 -- a chunk that is accepted behind d has no fault for rebuild, with d as its store
-inputs_of_chunk : (d : List ℕ) (c : Chunk) → length d ≤ store_most → chunk_ruling (length d) c ≡ Fine → inputs_ruling c.list c.block d ≡ Fine
+inputs_of_chunk : (d : List ℕ) (c : Chunk) → length d ≤ store_most → chunk_ruling (length d) c ≡ Ok tt → inputs_ruling c.list c.block d ≡ Ok tt
 inputs_of_chunk d c most e =
     let f : ChunkFit (length d) c = fit_of_chunk e in
     let rs = rows_of c.list in
@@ -318,13 +315,13 @@ module _ {k : Kept} {x : Rebuilding} (t : Rebuilds k x) (a : Accepts x.answer) {
   split : chunks_in k ≡ first ++ here ∷ last
   split = split_at (chunks_in k) i (chunk [] []) h
 
-  parts : (chunks_ruling 0 0 first ≡ Fine) × (chunks_ruling (0 + length first) (0 + wholes first) (here ∷ last) ≡ Fine)
+  parts : (chunks_ruling 0 0 first ≡ Ok tt) × (chunks_ruling (0 + length first) (0 + wholes first) (here ∷ last) ≡ Ok tt)
   parts = fine_of_append 0 0 first (here ∷ last) (ap (chunks_ruling 0 0) (sym split) ∙ (shown t a).chunks_fine)
 
   length_store : (length store ≡ start_of k i) × (length store ≤ volume_most)
   length_store = let s = sound_of_fine 0 0 [] first refl (omega arith) parts.0 in (omega (arith, s.1), omega (arith, s.1, s.2))
 
-  here_fine : chunk_ruling (length store) here ≡ Fine
+  here_fine : chunk_ruling (length store) here ≡ Ok tt
   here_fine =
       let n : length store ≡ 0 + wholes first = omega (arith, length_store.0) in
       ap (λ (m : ℕ). chunk_ruling m here) n ∙ (fine_of_chunks (0 + length first) (0 + wholes first) here last parts.1).0
@@ -349,7 +346,7 @@ module _ {k : Kept} {x : Rebuilding} (t : Rebuilds k x) (a : Accepts x.answer) {
       ∙ take_at bytes beyond (whole_of here) length_here
 
   by_itself : (y : Rebuilding) → Rebuilt here.list here.block (take (start_of k i) x.after) y.before y.answer y.after → whole_of here ≤ length y.before
-      → (y.answer ≡ Accepted (length_only (whole_of here))) × (y.after ≡ over (take (whole_of here) (drop (start_of k i) x.after)) y.before)
+      → (y.answer ≡ Ok (length_only (whole_of here))) × (y.after ≡ over (take (whole_of here) (drop (start_of k i) x.after)) y.before)
   by_itself y made room =
       let inputs = inputs_of_chunk store here length_store.1 here_fine in
       let fine = rebuild_fine here.list here.block store y.before inputs room in
@@ -372,10 +369,10 @@ volume_laws =
 -- ---- a deposit
 
 module _ {k : Kept} {area area' : List ℕ} {r : Answer} (made : VolumeRebuilt k.index k.lists k.blocks area r area') where
-  pub none_deposited : {price : Price} {list v : List ℕ} {before : Areas} {z : Refusal} → r ≡ Refused z → Deposits price k list v area before (record { rebuilt = r; deposited = r }) area' before
+  pub none_deposited : {price : Price} {list v : List ℕ} {before : Areas} {z : Refusal} → r ≡ Err z → Deposits price k list v area before (record { rebuilt = r; deposited = r }) area' before
   none_deposited q = record { rebuilt = made; deposited = λ a. absurd (rw q at a); comes_back = λ a. absurd (rw q at a); or_none = λ y e. (e, refl) }
 
-  module _ {f : Figures} (q : r ≡ Accepted f) where
+  module _ {f : Figures} (q : r ≡ Ok f) where
     abbrev once : Rebuilding
     once = record { before = area; answer = r; after = area' }
 
@@ -391,7 +388,7 @@ module _ {k : Kept} {area area' : List ℕ} {r : Answer} (made : VolumeRebuilt k
 
     -- its bytes are handed on
     pub deposited_next : {price : Price} {list v : List ℕ} {before after : Areas} {z : Answer} {m : ℕ} → m ≡ f.whole → Partitioned price list v (take m area') before z after
-        → Deposits price k list v area before (record { rebuilt = Accepted f; deposited = z }) area' after
+        → Deposits price k list v area before (record { rebuilt = Ok f; deposited = z }) area' after
     deposited_next {price} {list} {v} {before} {after} {z} {m} e u =
         let m_is : m ≡ (figures_in r).whole = e ∙ ap (λ (a : Answer). (figures_in a).whole) (sym q) in
         let next : Partitioned price list v (written_volume once) before z after = subst (λ (n : ℕ). Partitioned price list v (take n area') before z after) m_is u in

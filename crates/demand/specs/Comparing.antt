@@ -2,13 +2,10 @@
 -- the same, each from the same origin, and so exactly where what tidy wrote and the stored blocks are; a list and itself; the order of the two; a list
 -- beside what tidy, partition, pass and commit wrote of it; and what counts of the store.
 -- Assumes nothing.
-use Rattle.std.specs.Prelude.{ℕ, ◌/◌, ◌≡◌, true, List, length, take}
+use Rattle.std.specs.Prelude.{ℕ, ◌/◌, ◌≡◌, true, List, length, take, Ok, Err}
 use Rattle.format.specs.declared.Fault.TheVariants.{NoSuchRecord}
 use Rattle.format.specs.declared.Refusal.{Refusal}
-use Rattle.format.specs.declared.Answer.{Answer}
-use Rattle.format.specs.declared.Answer.TheVariants.{Refused}
-use Rattle.format.specs.declared.Ruling.TheVariants.{Fine}
-use Rattle.format.specs.Refusal.{Accepts, answer, figures_in}
+use Rattle.format.specs.Refusal.{Answer, Accepts, answer, figures_in}
 use Rattle.format.specs.Record.{records_of}
 use Rattle.price.specs.declared.Price.{Price}
 use Rattle.choice.specs.Choice.{bit_bytes, keep_all}
@@ -41,10 +38,10 @@ pub record Exactly (a : Answer) (P : Type 0) : Type 0 where
 
 pub record ComparingLaws : Type 0 where
   -- clause 8.3.1: the refusal of check, but for its 11, whatever k it was asked for; of the first list, and of the second where rebuild accepts the first
-  pub first_refused : (first second block₁ block₂ st : List ℕ) (k : ℕ) (r : Refusal) → checked first block₁ st k ≡ Refused r → (r.fault ≡ NoSuchRecord → ⊥)
-      → compared first second block₁ block₂ st ≡ Refused r
-  pub second_refused : (first second block₁ block₂ st : List ℕ) (x : Rebuilding) (k : ℕ) (r : Refusal) → Rebuilds first block₁ st x → checked second block₂ st k ≡ Refused r
-      → (r.fault ≡ NoSuchRecord → ⊥) → compared first second block₁ block₂ st ≡ Refused r
+  pub first_refused : (first second block₁ block₂ st : List ℕ) (k : ℕ) (r : Refusal) → checked first block₁ st k ≡ Err r → (r.fault ≡ NoSuchRecord → ⊥)
+      → compared first second block₁ block₂ st ≡ Err r
+  pub second_refused : (first second block₁ block₂ st : List ℕ) (x : Rebuilding) (k : ℕ) (r : Refusal) → Rebuilds first block₁ st x → checked second block₂ st k ≡ Err r
+      → (r.fault ≡ NoSuchRecord → ⊥) → compared first second block₁ block₂ st ≡ Err r
   -- clause 8.3.2: where rebuild accepts both, yes exactly where what it wrote is the same and each byte has the same origin in both
   pub as_rebuilt : (first second block₁ block₂ st : List ℕ) (x y : Rebuilding) → Rebuilds first block₁ st x → Rebuilds second block₂ st y
       → Exactly (compared first second block₁ block₂ st) ((written_version x ≡ written_version y) × SameOrigins (records_of first) (records_of second))
@@ -58,7 +55,7 @@ pub record ComparingLaws : Type 0 where
   -- clause 8.3.4: a list and itself: yes, or the list's refusal
   pub itself : (list block st : List ℕ) → compared list list block block st ≡ answer (inputs_ruling list block st) (yes_or_no true)
   -- clause 8.3.5: the order of the two does not matter, where neither is refused
-  pub either_order : (first second block₁ block₂ st : List ℕ) → inputs_ruling first block₁ st ≡ Fine → inputs_ruling second block₂ st ≡ Fine
+  pub either_order : (first second block₁ block₂ st : List ℕ) → inputs_ruling first block₁ st ≡ Ok tt → inputs_ruling second block₂ st ≡ Ok tt
       → compared first second block₁ block₂ st ≡ compared second first block₂ block₁ st
   -- clause 8.3.6: a list and what tidy wrote of it, with its stored block: yes, or the list's refusal
   pub of_tidy : (list block st : List ℕ) (x : ListCall) → Tidies list st x → Accepts x.answer

@@ -3,10 +3,8 @@
 -- In order: the four calls; that each is that call, by its own contract; room for each; the statement, a field for each sentence; the demand,
 -- closed: for every price, list, version and store, and for all answers and areas.
 -- Assumes nothing.
-use Rattle.std.specs.Prelude.{ℕ, ◌*◌, ◌-◌, ◌≤◌, ◌≡◌, List, length, take}
-use Rattle.format.specs.declared.Answer.{Answer}
-use Rattle.format.specs.declared.Ruling.TheVariants.{Fine}
-use Rattle.format.specs.Refusal.{Accepts, length_only, figures_in}
+use Rattle.std.specs.Prelude.{ℕ, ◌*◌, ◌-◌, ◌≤◌, ◌≡◌, List, length, take, Ok}
+use Rattle.format.specs.Refusal.{Answer, Accepts, length_only, figures_in}
 use Rattle.format.specs.Record.{records_of}
 use Rattle.price.specs.declared.Price.{Price}
 use Rattle.price.specs.Price.{rates_of, cost}
@@ -101,7 +99,7 @@ pub record Demand (price : Price) (list v : List ℕ) (x : Calls) : Type 0 where
 
 -- it holds of four calls where nothing is found in price, list, version and store, and the areas are long enough for them
 abbrev pub Holds : Price → List ℕ → List ℕ → List ℕ → Calls → Type 0
-Holds price list v st x = findings price list v st ≡ Fine → Room list v x → Demand price list v x
+Holds price list v st x = findings price list v st ≡ Ok tt → Room list v x → Demand price list v x
 
 -- section 8.1: it holds of any four that are these calls
 abbrev pub DemandThree : Type 0

@@ -4,8 +4,7 @@
 -- function makes them.
 -- Assumes nothing.
 use Rattle.std.specs.Prelude.{ℕ, ◌+◌, ◌*◌, ◌/◌, ◌≤◌, ◌<◌, ◌≡◌, List, length, take, get_or}
-use Rattle.format.specs.declared.Answer.{Answer}
-use Rattle.format.specs.Refusal.{Accepts, figures_in}
+use Rattle.format.specs.Refusal.{Answer, Accepts, figures_in}
 use Rattle.format.specs.Record.{records_of}
 use Rattle.price.specs.declared.Price.{Price}
 use Rattle.price.specs.Price.{price_at, index_bytes}

@@ -3,9 +3,8 @@
 -- Assumes nothing.
 use Rattle.std.specs.Prelude.{ℕ, ◌≡◌, List, length}
 use Rattle.format.specs.declared.Record.{Record}
-use Rattle.format.specs.declared.Ruling.{Ruling}
+use Rattle.format.specs.Refusal.{Ruling, answer}
 use Rattle.format.specs.declared.Figures.{Figures}
-use Rattle.format.specs.Refusal.{answer}
 use Rattle.format.specs.Record.{records_of}
 use Rattle.format.specs.Meaning.{stored, whole}
 use Rattle.choice.specs.Choice.{Bit, list_of}

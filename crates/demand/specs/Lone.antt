@@ -1,7 +1,6 @@
 -- Clause 8.5.4: to store a match with no stored record beside it may be worth it; partition then does it, pass never does.
 -- Assumes nothing.
-use Rattle.std.specs.Prelude.{ℕ, ◌≡◌, true, false, List}
-use Rattle.format.specs.declared.Ruling.TheVariants.{Fine}
+use Rattle.std.specs.Prelude.{ℕ, ◌≡◌, true, false, List, Ok}
 use Rattle.format.specs.Record.{records_of}
 use Rattle.price.specs.declared.Price.{Price}
 use Rattle.price.specs.Price.{price_at, rates_of}
@@ -24,4 +23,4 @@ pub record LoneMatches : Type 0 where
   pub worth_it : stores_alone true lone (least (rates_of (price_at 1 10 256)) lone) ≡ true
   -- whatever meets pass's contract, on inputs without a fault, stores none
   pub only_partition : (p : Price) (list v st : List ℕ) (x : Call) → PassMade p list v st x.before x.answer x.after
-      → partition_ruling p list v st x.before ≡ Fine → NoneAlone list v x
+      → partition_ruling p list v st x.before ≡ Ok tt → NoneAlone list v x

@@ -8,8 +8,7 @@
 use Rattle.std.specs.Prelude.{ℕ, ◌+◌, ◌≡◌, List, [], ◌∷◌, length}
 use Rattle.format.specs.declared.Record.{Record}
 use Rattle.format.specs.declared.Record.TheVariants.{New, Match}
-use Rattle.format.specs.declared.Ruling.{Ruling}
-use Rattle.format.specs.Refusal.{answer, unless_refused}
+use Rattle.format.specs.Refusal.{Ruling, answer, unless_refused}
 use Rattle.format.specs.Record.{records_of}
 use Rattle.price.specs.declared.Price.{Price}
 use Rattle.price.specs.declared.Rates.{Rates}

@@ -2,15 +2,13 @@
 --
 -- In order: a call of pool; a list by itself; a list without matches; the laws, a field for each.
 -- Assumes nothing.
-use Rattle.std.specs.Prelude.{ℕ, ◌+◌, ◌≤◌, ◌<◌, ◌≡◌, true, List, [], ◌∷◌, leb, length}
+use Rattle.std.specs.Prelude.{ℕ, ◌+◌, ◌≤◌, ◌<◌, ◌≡◌, true, List, [], ◌∷◌, leb, length, Ok, Err}
 use Rattle.format.specs.declared.Fault.TheVariants as fault
 use Rattle.format.specs.declared.Record.{Record}
 use Rattle.format.specs.declared.Record.TheVariants.{New, Match}
 use Rattle.format.specs.declared.Refusal.{Refusal}
-use Rattle.format.specs.declared.Ruling.{Ruling}
-use Rattle.format.specs.declared.Answer.TheVariants.{Accepted, Refused}
+use Rattle.format.specs.Refusal.{Ruling, need, ◌then◌, answer, unless_refused, Accepts, figures_in, length_only, entries_only}
 use Rattle.format.specs.Limits.{list_most}
-use Rattle.format.specs.Refusal.{need, ◌then◌, answer, unless_refused, Accepts, figures_in, length_only, entries_only}
 use Rattle.format.specs.Record.{records_of, encode}
 use Rattle.format.specs.Meaning.{whole, stored, block_of}
 use Rattle.format.specs.Origins.{fresh, origin_at}
@@ -50,13 +48,13 @@ NoMatch (Match s a ∷ l) = ⊥
 pub record PoolingLaws : Type 0 where
   -- clause 4.13.8: what partition refuses, with another number than 1, 5 and 9, pool refuses alike: the first list, and the second where pool of the
   -- first with itself is accepted
-  pub first_refused : (p : Price) (first second v st area : List ℕ) (x : Call) (r : Refusal) → Partitioned p first v st x.before x.answer x.after → x.answer ≡ Refused r
-      → (r.fault ≡ fault.Price → ⊥) → (r.fault ≡ fault.AreaTooShort → ⊥) → (r.fault ≡ fault.Adjacent → ⊥) → pool_answer first second v st area ≡ Refused r
+  pub first_refused : (p : Price) (first second v st area : List ℕ) (x : Call) (r : Refusal) → Partitioned p first v st x.before x.answer x.after → x.answer ≡ Err r
+      → (r.fault ≡ fault.Price → ⊥) → (r.fault ≡ fault.AreaTooShort → ⊥) → (r.fault ≡ fault.Adjacent → ⊥) → pool_answer first second v st area ≡ Err r
   pub second_refused : (p : Price) (first second v st area : List ℕ) (x : Call) (y : ListCall) (r : Refusal) → Pools first first v st y → Accepts y.answer
-      → Partitioned p second v st x.before x.answer x.after → x.answer ≡ Refused r
-      → (r.fault ≡ fault.Price → ⊥) → (r.fault ≡ fault.AreaTooShort → ⊥) → (r.fault ≡ fault.Adjacent → ⊥) → pool_answer first second v st area ≡ Refused r
+      → Partitioned p second v st x.before x.answer x.after → x.answer ≡ Err r
+      → (r.fault ≡ fault.Price → ⊥) → (r.fault ≡ fault.AreaTooShort → ⊥) → (r.fault ≡ fault.Adjacent → ⊥) → pool_answer first second v st area ≡ Err r
   -- and it never answers 5
-  pub never_five : (first second v st area : List ℕ) (r : Refusal) → pool_answer first second v st area ≡ Refused r → r.fault ≡ fault.Adjacent → ⊥
+  pub never_five : (first second v st area : List ℕ) (r : Refusal) → pool_answer first second v st area ≡ Err r → r.fault ≡ fault.Adjacent → ⊥
   -- clause 8.8.1: a list with itself gives its own tidy form, or its refusal
   pub itself : (list v st : List ℕ) (x : ListCall) → Pools list list v st x
       → (x.answer ≡ answer (sole_ruling list v st (length x.before)) (entries_only (length (tidy_form list))))
@@ -69,10 +67,10 @@ pub record PoolingLaws : Type 0 where
       → Partitioned p (list_out x) v st y.before y.answer y.after → price_fits p ≡ true → LongEnough (list_out x) v y.before → Accepts y.answer
   -- clause 8.8.3: with the version's bytes under its new records check accepts it, at each record, and rebuild makes the version
   pub checked_with_block : (first second v st : List ℕ) (x : ListCall) (k : ℕ) → Pools first second v st x → Accepts x.answer → k < (figures_in x.answer).entries
-      → checked (list_out x) (new_bytes v x) st k ≡ Accepted (length_only 0)
+      → checked (list_out x) (new_bytes v x) st k ≡ Ok (length_only 0)
   pub rebuilt_with_block : (first second v st : List ℕ) (x : ListCall) (y : Rebuilding) → Pools first second v st x → Accepts x.answer
       → Rebuilt (list_out x) (new_bytes v x) st y.before y.answer y.after → length v ≤ length y.before
-      → (y.answer ≡ Accepted (length_only (length v))) × (y.after ≡ over v y.before)
+      → (y.answer ≡ Ok (length_only (length v))) × (y.after ≡ over v y.before)
   -- clause 8.8.4: a byte is new exactly when it is new in both lists
   pub new_in_both : (first second v st : List ℕ) (x : ListCall) (i : ℕ) → Pools first second v st x → Accepts x.answer → i < length v
       → (origin_at (records_of (list_out x)) i ≡ fresh → (origin_at (records_of first) i ≡ fresh) × (origin_at (records_of second) i ≡ fresh))

@@ -3,13 +3,9 @@
 --
 -- In order: the two calls in turn; a call of commit by itself; the laws, a field for each; the two calls as one function makes them.
 -- Assumes nothing.
-use Rattle.std.specs.Prelude.{ℕ, ◌/◌, ◌≤◌, ◌≡◌, Bool, true, false, List, length, take}
+use Rattle.std.specs.Prelude.{ℕ, ◌/◌, ◌≤◌, ◌≡◌, Bool, true, false, List, length, take, Ok, Err}
 use Rattle.format.specs.declared.Refusal.{Refusal}
-use Rattle.format.specs.declared.Ruling.{Ruling}
-use Rattle.format.specs.declared.Ruling.TheVariants.{Fine}
-use Rattle.format.specs.declared.Answer.{Answer}
-use Rattle.format.specs.declared.Answer.TheVariants.{Accepted, Refused}
-use Rattle.format.specs.Refusal.{Accepts, answer, unless_refused, length_only, figures_in}
+use Rattle.format.specs.Refusal.{Ruling, Answer, Accepts, answer, unless_refused, length_only, figures_in}
 use Rattle.format.specs.Record.{records_of, encode}
 use Rattle.format.specs.Meaning.{block_of}
 use Rattle.price.specs.declared.Price.{Price}
@@ -36,7 +32,7 @@ pub record InTurn (price : Price) (list v st : List ℕ) (before : Areas) (r : T
   pub first : Estimated price list v st before.choice r.estimated after.choice
   pub second : Accepts r.estimated
       → Committed price list v st (take (length list / 12) after.choice) before.list before.block r.committed after.list after.block
-  pub or_none : (x : Refusal) → r.estimated ≡ Refused x → (r.committed ≡ Refused x) × (after.list ≡ before.list) × (after.block ≡ before.block)
+  pub or_none : (x : Refusal) → r.estimated ≡ Err x → (r.committed ≡ Err x) × (after.list ≡ before.list) × (after.block ≡ before.block)
 
 -- a call of commit: the choice that it is given stands in the place of a choice area, and stays
 pub record Commits (price : Price) (list v st : List ℕ) (x : Call) : Type 0 where
@@ -60,12 +56,12 @@ pub record SplitLaws : Type 0 where
   pub without_room : (p : Price) (list v st choice : List ℕ) (before : Areas) (r : Answer) (area block : List ℕ) → room list v before ≡ false
       → Committed p list v st choice before.list before.block r area block → Partitioned p list v st before r (areas before.choice area block)
   -- clause 8.2.4: 12 is answered exactly for byte strings that are not a choice, least or not
-  pub any_choice : (list : List ℕ) (c : List Bit) → IsChoice (records_of list) c → choice_ruling list (bit_bytes c) ≡ Fine
-  pub choices_alone : (list choice : List ℕ) → choice_ruling list choice ≡ Fine → (c : List Bit) × IsChoice (records_of list) c × (choice ≡ bit_bytes c)
+  pub any_choice : (list : List ℕ) (c : List Bit) → IsChoice (records_of list) c → choice_ruling list (bit_bytes c) ≡ Ok tt
+  pub choices_alone : (list choice : List ℕ) → choice_ruling list choice ≡ Ok tt → (c : List Bit) × IsChoice (records_of list) c × (choice ≡ bit_bytes c)
   -- whatever choice it was: rebuild makes the version again from the list that was written, its stored block and the store
   pub comes_back : (p : Price) (list v st : List ℕ) (x : Call) (y : Rebuilding) → Commits p list v st x → Accepts x.answer
       → Rebuilt (written_list x) (written_block x) st y.before y.answer y.after → length v ≤ length y.before
-      → (y.answer ≡ Accepted (length_only (length v))) × (y.after ≡ over v y.before)
+      → (y.answer ≡ Ok (length_only (length v))) × (y.after ≡ over v y.before)
   -- a commitment costs no less than the estimate
   pub no_cheaper : (p : Price) (list v st choice : List ℕ) (r : Answer) (after : List ℕ) (x : Call) → Estimated p list v st choice r after → Accepts r
       → Commits p list v st x → Accepts x.answer → (figures_in r).cost ≤ (figures_in x.answer).cost

@@ -2,14 +2,11 @@
 --
 -- In order: a call with a list area; a call of tidy; when two lists have the same origins; the laws, a field for each; tidying twice as one function makes it.
 -- Assumes nothing.
-use Rattle.std.specs.Prelude.{ℕ, ◌≤◌, ◌<◌, ◌≡◌, List, length}
+use Rattle.std.specs.Prelude.{ℕ, ◌≤◌, ◌<◌, ◌≡◌, List, length, Ok, Err}
 use Rattle.format.specs.declared.Fault.TheVariants.{Adjacent, BlockLength, NoSuchRecord}
 use Rattle.format.specs.declared.Record.{Record}
 use Rattle.format.specs.declared.Refusal.{Refusal}
-use Rattle.format.specs.declared.Answer.{Answer}
-use Rattle.format.specs.declared.Answer.TheVariants.{Accepted, Refused}
-use Rattle.format.specs.declared.Ruling.TheVariants.{Fine}
-use Rattle.format.specs.Refusal.{Accepts, figures_in, length_only, entries_only}
+use Rattle.format.specs.Refusal.{Answer, Accepts, figures_in, length_only, entries_only}
 use Rattle.format.specs.Record.{records_of}
 use Rattle.format.specs.Meaning.{whole, stored, rebuilt}
 use Rattle.format.specs.Origins.{origin_at}
@@ -42,7 +39,7 @@ list_out x = list_written x.answer x.after
 
 -- it wrote this list, of n records, and no other byte
 pub record Writes (list : List ℕ) (n : ℕ) (x : ListCall) : Type 0 where
-  pub answered : x.answer ≡ Accepted (entries_only n)
+  pub answered : x.answer ≡ Ok (entries_only n)
   pub area_after : x.after ≡ over list x.before
 
 -- two lists cover equally many bytes, and each byte of the version has one origin in both: it is new in both, or drawn from the same address with the
@@ -53,14 +50,14 @@ pub record SameOrigins (l k : List Record) : Type 0 where
 
 pub record TidyingLaws : Type 0 where
   -- clause 4.11.1: check_loose answers as check does, but for number 5, k and the stored block: the same refusal, or none
-  pub refused_as_check : (list block st : List ℕ) (k : ℕ) (r : Refusal) → checked list block st k ≡ Refused r
-      → (r.fault ≡ Adjacent → ⊥) → (r.fault ≡ BlockLength → ⊥) → (r.fault ≡ NoSuchRecord → ⊥) → loose_checked list st ≡ Refused r
-  pub accepted_as_check : (list block st : List ℕ) → inputs_ruling list block st ≡ Fine → loose_checked list st ≡ Accepted (length_only 0)
+  pub refused_as_check : (list block st : List ℕ) (k : ℕ) (r : Refusal) → checked list block st k ≡ Err r
+      → (r.fault ≡ Adjacent → ⊥) → (r.fault ≡ BlockLength → ⊥) → (r.fault ≡ NoSuchRecord → ⊥) → loose_checked list st ≡ Err r
+  pub accepted_as_check : (list block st : List ℕ) → inputs_ruling list block st ≡ Ok tt → loose_checked list st ≡ Ok (length_only 0)
   -- clause 4.11.2: it never answers 5
-  pub never_five : (list st : List ℕ) (r : Refusal) → loose_checked list st ≡ Refused r → r.fault ≡ Adjacent → ⊥
+  pub never_five : (list st : List ℕ) (r : Refusal) → loose_checked list st ≡ Err r → r.fault ≡ Adjacent → ⊥
   -- clause 4.12.1: with room for the list, tidy refuses just what check_loose refuses
   pub refused_alike : (list st area : List ℕ) (r : Refusal) → length list ≤ length area
-      → (tidy_answer list st area ≡ Refused r → loose_checked list st ≡ Refused r) × (loose_checked list st ≡ Refused r → tidy_answer list st area ≡ Refused r)
+      → (tidy_answer list st area ≡ Err r → loose_checked list st ≡ Err r) × (loose_checked list st ≡ Err r → tidy_answer list st area ≡ Err r)
   -- clauses 4.12.2 and 4.12.3: of what tidy wrote no two neighbours are new or join, and each byte has the origin that it had
   pub none_joins : (list st : List ℕ) (x : ListCall) → Tidies list st x → Accepts x.answer → Settled (records_of (list_out x))
   pub origins_stay : (list st : List ℕ) (x : ListCall) → Tidies list st x → Accepts x.answer → SameOrigins (records_of list) (records_of (list_out x))
@@ -69,11 +66,11 @@ pub record TidyingLaws : Type 0 where
       → Writes (list_out x) (figures_in x.answer).entries y
   -- clause 8.7.2: the stored block needs no change: check accepts the tidy form with it, number 5 included, at each record
   pub checked_with_block : (list block st : List ℕ) (x : ListCall) (k : ℕ) → Tidies list st x → Accepts x.answer → length block ≡ stored (records_of list)
-      → k < (figures_in x.answer).entries → checked (list_out x) block st k ≡ Accepted (length_only 0)
+      → k < (figures_in x.answer).entries → checked (list_out x) block st k ≡ Ok (length_only 0)
   -- and rebuild makes of it what the loose list stands for
   pub rebuilt_with_block : (list block st : List ℕ) (x : ListCall) (y : Rebuilding) → Tidies list st x → Accepts x.answer → length block ≡ stored (records_of list)
       → Rebuilt (list_out x) block st y.before y.answer y.after → whole (records_of list) ≤ length y.before
-      → (y.answer ≡ Accepted (length_only (whole (records_of list)))) × (y.after ≡ over (rebuilt (records_of list) block st) y.before)
+      → (y.answer ≡ Ok (length_only (whole (records_of list)))) × (y.after ≡ over (rebuilt (records_of list) block st) y.before)
   -- clause 8.7.3: two accepted lists have one tidy form exactly when their origins are the same
   pub exactly_when : (list₁ list₂ st₁ st₂ : List ℕ) (x y : ListCall) → Tidies list₁ st₁ x → Accepts x.answer → Tidies list₂ st₂ y → Accepts y.answer
       → (list_out x ≡ list_out y → SameOrigins (records_of list₁) (records_of list₂)) × (SameOrigins (records_of list₁) (records_of list₂) → list_out x ≡ list_out y)
@@ -96,4 +93,4 @@ pub record TwoCalls (list st first second : List ℕ) (r : TwiceTidied) (first' 
   pub once : Tidied list st first r.once first'
   pub again : Accepts r.once → Tidied (list_written r.once first') st second r.again second'
   pub same : Accepts r.once → length (list_written r.once first') ≤ length second → (r.again ≡ r.once) × (second' ≡ over (list_written r.once first') second)
-  pub or_none : (x : Refusal) → r.once ≡ Refused x → (r.again ≡ Refused x) × (second' ≡ second)
+  pub or_none : (x : Refusal) → r.once ≡ Err x → (r.again ≡ Err x) × (second' ≡ second)

@@ -3,14 +3,12 @@
 -- In order: a volume as it is kept, and one chunk more; a call of rebuild_volume; when a version comes back; one chunk by itself; the laws, a field for
 -- each; a deposit as one function makes it.
 -- Assumes nothing.
-use Rattle.std.specs.Prelude.{ℕ, ◌+◌, ◌≤◌, ◌<◌, ◌≡◌, cond, List, [], ◌++◌, eqb, length, take, drop, get_or}
+use Rattle.std.specs.Prelude.{ℕ, ◌+◌, ◌≤◌, ◌<◌, ◌≡◌, cond, List, [], ◌++◌, eqb, length, take, drop, get_or, Ok, Err}
 use Rattle.format.specs.declared.Fault.{Fault}
 use Rattle.format.specs.declared.Fault.TheVariants.{OutsideEarlier}
 use Rattle.format.specs.declared.Refusal.{Refusal}
-use Rattle.format.specs.declared.Answer.{Answer}
-use Rattle.format.specs.declared.Answer.TheVariants.{Accepted, Refused}
+use Rattle.format.specs.Refusal.{Answer, number, refuse, Accepts, figures_in, length_only}
 use Rattle.format.specs.Limits.{volume_most, index_most}
-use Rattle.format.specs.Refusal.{number, refuse, Accepts, figures_in, length_only}
 use Rattle.price.specs.declared.Price.{Price}
 use Rattle.area.specs.Area.{over, Areas}
 use Rattle.rebuild.specs.Rebuild.{Rebuilt}
@@ -55,7 +53,7 @@ written_volume x = volume_written x.answer x.after
 abbrev pub ComesBack : Kept → List ℕ → List ℕ → List ℕ → List ℕ → Type 0
 ComesBack k d list block v =
     (x : Rebuilding) → Rebuilds (added k list block) x → length (added k list block).index ≤ index_most → length d + length v ≤ volume_most → length d + length v ≤ length x.before
-    → (x.answer ≡ Accepted (length_only (length d + length v))) × (x.after ≡ over (d ++ v) x.before)
+    → (x.answer ≡ Ok (length_only (length d + length v))) × (x.after ≡ over (d ++ v) x.before)
 
 -- the chunks of a volume; chunk i; where it begins: behind the bytes that those before it cover
 abbrev pub chunks_in : Kept → List Chunk
@@ -72,8 +70,8 @@ abbrev pub of_chunk : Fault → Fault
 of_chunk f = cond (eqb (number f) 7) OutsideEarlier f
 
 abbrev pub as_chunk : Answer → Answer
-as_chunk (Accepted x) = Accepted x
-as_chunk (Refused r) = Refused (refuse (of_chunk r.fault) 0)
+as_chunk (Ok x) = Ok x
+as_chunk (Err r) = Err (refuse (of_chunk r.fault) 0)
 
 pub record VolumeLaws : Type 0 where
   -- a version that partition deposited against the rebuilt part, and that is added as the next chunk, comes back, as do all before it
@@ -90,7 +88,7 @@ pub record VolumeLaws : Type 0 where
   -- each chunk by itself: rebuild of its list and stored block, with the part before it as store, gives its stretch of the area
   pub each_chunk : (k : Kept) (i : ℕ) (x y : Rebuilding) → Rebuilds k x → Accepts x.answer → i < length (chunks_in k)
       → Rebuilt (chunk_at k i).list (chunk_at k i).block (take (start_of k i) x.after) y.before y.answer y.after → whole_of (chunk_at k i) ≤ length y.before
-      → (y.answer ≡ Accepted (length_only (whole_of (chunk_at k i)))) × (y.after ≡ over (take (whole_of (chunk_at k i)) (drop (start_of k i) x.after)) y.before)
+      → (y.answer ≡ Ok (length_only (whole_of (chunk_at k i)))) × (y.after ≡ over (take (whole_of (chunk_at k i)) (drop (start_of k i) x.after)) y.before)
   -- the stretches of all chunks are the volume
   pub whole_told : (k : Kept) (x : Rebuilding) → Rebuilds k x → Accepts x.answer → (figures_in x.answer).whole ≡ wholes (chunks_in k)
 
@@ -102,4 +100,4 @@ pub record Deposits (price : Price) (k : Kept) (list v area : List ℕ) (before 
   pub rebuilt : VolumeRebuilt k.index k.lists k.blocks area r.rebuilt area'
   pub deposited : Accepts r.rebuilt → Partitioned price list v (volume_written r.rebuilt area') before r.deposited after
   pub comes_back : Accepts r.deposited → ComesBack k (volume_written r.rebuilt area') (list_written r.deposited after.list) (block_written r.deposited after.block) v
-  pub or_none : (z : Refusal) → r.rebuilt ≡ Refused z → (r.deposited ≡ Refused z) × (after ≡ before)
+  pub or_none : (z : Refusal) → r.rebuilt ≡ Err z → (r.deposited ≡ Err z) × (after ≡ before)

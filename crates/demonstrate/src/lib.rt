@@ -13,11 +13,11 @@ use price::Price;
 
 // The four calls, one after the other: areas 1 are lent to the first partition, 2 to the second, 3 to the pass. What a refused partition wrote
 // is an empty list with an empty block.
-pub fn demonstrate<'a>(
+pub fn demonstrate(
     price: Price,
     list: &[u8],
-    version: &'a [u8],
-    store: &'a [u8],
+    version: &[u8],
+    store: &[u8],
     choice1: &mut [u8],
     list1: &mut [u8],
     block1: &mut [u8],
@@ -40,13 +40,13 @@ pub fn demonstrate<'a>(
         (areas choice3.old list3.old block3.old) (areas choice3.new list3.new block3.new)) }
 {
     let first = call_partition::partition(price, list, version, store, choice1, list1, block1);
-    let figures = format::figures_of(first);
-    let n = 12 * format::index(figures.entries);
-    let m = format::index(figures.stored);
+    let figures = first.unwrap_or_default();
+    let n = 12 * figures.entries as usize;
+    let m = figures.stored as usize;
     let both = handed_on::hand_on(
         price,
-        &list1[0..n],
-        &block1[0..m],
+        &list1[..n],
+        &block1[..m],
         version,
         store,
         out,
@@ -54,13 +54,11 @@ pub fn demonstrate<'a>(
         list2,
         block2,
     );
-    let rebuilt = both.rebuilt;
-    let again = both.again;
     let passed = call_pass::pass(price, list, version, store, choice3, list3, block3);
     Answers {
         first,
-        rebuilt,
-        again,
+        rebuilt: both.rebuilt,
+        again: both.again,
         passed,
     }
 }

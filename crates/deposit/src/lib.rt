@@ -6,7 +6,6 @@ ghost use Rattle.area.specs.Area.{areas};
 ghost use Rattle.demand.specs.Volumes.{kept, Deposits};
 
 use demand::Deposited;
-use format::Answer;
 use price::Price;
 
 // Rebuild_volume and, where that is accepted, partition of a version's list against the volume that it wrote.
@@ -27,18 +26,18 @@ pub fn deposit(
         area.new (areas choice.new list_area.new block_area.new) }
 {
     let rebuilt = rebuild_volume::rebuild_volume(index, lists, blocks, area);
-    let Answer::Accepted(figures) = rebuilt else {
+    let Ok(figures) = rebuilt else {
         return Deposited {
             rebuilt,
             deposited: rebuilt,
         };
     };
-    let n = format::index(figures.whole);
+    let n = figures.whole as usize;
     let deposited = call_partition::partition(
         price,
         list,
         version,
-        &area[0..n],
+        &area[..n],
         choice,
         list_area,
         block_area,

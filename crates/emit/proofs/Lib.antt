@@ -1,2 +1,1 @@
-pub mod Emitting
 pub mod Listing

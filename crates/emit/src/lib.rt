@@ -1,10 +1,10 @@
 // Writing a list record by record, with one left open, so that the next may join it.
 //
-// In order: the bytes of a record; the next record taken in; the last one written.
+// In order: the bytes of a record; the emitter: its start; the next record taken in; the last one written.
 #![tactic(auto)]
 
-ghost use Rattle.std.specs.Prelude.{◌≡◌, ◌+◌, ◌≤◌, ◌<◌, length};
-ghost use Rattle.format.specs.Record.{mark_byte, bytes_of, encode};
+ghost use Rattle.std.specs.Prelude.{◌≡◌, ◌+◌, ◌≤◌, ◌<◌, length, Some, None};
+ghost use Rattle.format.specs.Record.{bytes_of, encode};
 ghost use Rattle.area.specs.Area.{pasted};
 ghost use Rattle.join.specs.Open.{pending, open_size, flushed};
 ghost use Rattle.emit.specs.Emit.{fields, Emits};
@@ -12,38 +12,13 @@ ghost use Rattle.emit.specs.Emit.{fields, Emits};
 use format::Record;
 use join::Open;
 
-// What is left after a record is taken in: the place after what is written, and the record that is open.
-#[derive(Clone, Copy)]
-pub struct Emitted {
-    pub out: usize,
-    pub last: Open,
-}
-
-// The 12 bytes of a record's fields.
+// The 12 bytes of a record's fields. Kind and mark are bytes, as the C interface has them.
 fn record_bytes(kind: u8, mark: u8, size: u32, address: u32) -> [u8; 12]
     ensures { result ≡ fields kind mark size address }
 {
-    [
-        kind,
-        mark,
-        0,
-        0,
-        (size % 256) as u8,
-        (size / 256 % 256) as u8,
-        (size / 65536 % 256) as u8,
-        (size / 16777216) as u8,
-        (address % 256) as u8,
-        (address / 256 % 256) as u8,
-        (address / 65536 % 256) as u8,
-        (address / 16777216) as u8,
-    ]
-}
-
-// Byte 1 of a match.
-fn mark_byte(held: bool) -> u8
-    ensures { result ≡ mark_byte held }
-{
-    if held { 1 } else { 0 }
+    let [s0, s1, s2, s3] = size.to_le_bytes();
+    let [a0, a1, a2, a3] = address.to_le_bytes();
+    [kind, mark, 0, 0, s0, s1, s2, s3, a0, a1, a2, a3]
 }
 
 // The 12 bytes of a record.
@@ -52,10 +27,7 @@ fn bytes_of(record: Record) -> [u8; 12]
 {
     match record {
         Record::New(size) => record_bytes(0, 0, size, 0),
-        Record::Match(size, source) => {
-            let mark = mark_byte(source.held);
-            record_bytes(1, mark, size, source.address)
-        }
+        Record::Match(size, source) => record_bytes(1, u8::from(source.held), size, source.address),
     }
 }
 
@@ -65,44 +37,60 @@ fn put_record(area: &mut [u8], out: usize, record: Record)
     requires { out + 12 ≤ length area.old }
     ensures { area.new ≡ pasted out (bytes_of «record») area.old }
 {
-    let b = bytes_of(record);
-    area::put_plain(area, out, &b);
+    area::put_plain(area, out, &bytes_of(record));
 }
 
-// Takes in the next record: it joins the open one, or the open one is written.
-pub fn emit(area: &mut [u8], out: usize, last: Open, record: Record) -> Emitted
-    requires record_in_bounds { out + length (encode (flushed last «record»)) ≤ length area.old }
-    requires record_bound { open_size last + open_size (Open.One «record») < 4294967296 }
-    ensures { Emits area.old out last «record» result area.new }
-{
-    let Open::One(waiting) = last else {
-        return Emitted {
-            out,
-            last: Open::One(record),
-        };
-    };
-    if join::joins(waiting, record) {
-        let both = join::grown(waiting, format::size_of(record));
-        return Emitted {
-            out,
-            last: Open::One(both),
-        };
-    }
-    put_record(area, out, waiting);
-    Emitted {
-        out: out + 12,
-        last: Open::One(record),
-    }
+// A list that is being written over a lent area: the area, the place after what is written, and the record that is open.
+#[derive(Drop)]
+pub struct Emitter<'a> {
+    area: &'a mut [u8],
+    out: usize,
+    last: Open,
 }
 
-// Writes the open record, if there is one, and gives the place after it.
-pub fn flush(area: &mut [u8], out: usize, last: Open) -> usize
-    requires { out + length (encode (pending last)) ≤ length area.old }
-    ensures { (result ≡ out + length (encode (pending last))) × (area.new ≡ pasted out (encode (pending last)) area.old) }
-{
-    let Open::One(waiting) = last else {
-        return out;
-    };
-    put_record(area, out, waiting);
-    out + 12
+impl<'a> Emitter<'a> {
+    // The start of a list.
+    pub fn new(area: &'a mut [u8]) -> Emitter<'a>
+        ensures same_area { result.area.ghost_name ≡ area.entry.ghost_name }
+        ensures as_lent { result.area.now ≡ area.old }
+        ensures empty { (result.out ≡ 0) × (result.last ≡ None) }
+    {
+        Emitter {
+            area,
+            out: 0,
+            last: None,
+        }
+    }
+
+    // Takes in the next record: it joins the open one, or the open one is written.
+    pub fn emit(&mut self, record: Record)
+        requires record_in_bounds { self.old.out + length (encode (flushed self.old.last «record»)) ≤ length self.old.area.now }
+        requires record_bound { open_size self.old.last + open_size (Some «record») < 4294967296 }
+        ensures { Emits self.old «record» self.new }
+    {
+        let mut open = record;
+        if let Some(waiting) = self.last {
+            if join::joins(waiting, record) {
+                open = join::grown(waiting, format::size_of(record));
+            } else {
+                put_record(self.area, self.out, waiting);
+                self.out += 12;
+            }
+        }
+        self.last = Some(open);
+    }
+
+    // Writes the open record, if there is one, and gives the place after it. The emitter is taken apart first: the check does not cover
+    // `self.out` where `self.area` is lent out of a value.
+    pub fn flush(self) -> usize
+        requires { self.out + length (encode (pending self.last)) ≤ length self.area.now }
+        ensures { (result ≡ self.entry.out + length (encode (pending self.entry.last))) × (self.exit.0.now ≡ pasted self.entry.out (encode (pending self.entry.last)) self.entry.area.now) }
+    {
+        let Emitter { area, out, last } = self;
+        let Some(waiting) = last else {
+            return out;
+        };
+        put_record(area, out, waiting);
+        out + 12
+    }
 }

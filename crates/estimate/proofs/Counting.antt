@@ -1,5 +1,6 @@
 -- Counting the entries and the stored bytes of a choice's list: before record i, what is counted, and what is to come.
 -- Assumes nothing.
+use Rattle.std.specs.Prelude.{Some, None}
 use Prim.Native.Nat.{ℕ, ◌+◌, ◌/◌, ◌≤◌, ◌<◌}
 use native.Mathlib.Omega.{arith}
 use mathlib.Core.Path.{◌≡◌, sym, ◌∙◌, ap}
@@ -12,9 +13,7 @@ use Rattle.format.specs.Record.{row_at, record_of, records_of}
 use Rattle.format.specs.Meaning.{stored}
 use Rattle.format.proofs.Rows.{stored_cons, length_from, length_records_of}
 use Rattle.format.proofs.Rebuilding.{stored_most}
-use Rattle.join.specs.declared.Open.{Open}
-use Rattle.join.specs.declared.Open.TheVariants.{No, One}
-use Rattle.join.specs.Open.{follows}
+use Rattle.join.specs.Open.{Open, follows}
 use Rattle.join.proofs.Joining.{stored_tidy}
 use Rattle.join.proofs.Opening.{entries_after, entries_tidy}
 use Rattle.choice.specs.Choice.{bit_at, bits_of, chosen, chosen_record}
@@ -29,7 +28,7 @@ pub record Counting (list choice : List ℕ) (n i : ℕ) (o : Open) (e s : ℕ) 
   pub stored_sum : stored (list_in list choice) ≡ s + stored (chosen_from list choice n i)
 
 module _ (list choice : List ℕ) where
-  pub counting_start : Counting list choice (length list / 12) 0 No 0 0
+  pub counting_start : Counting list choice (length list / 12) 0 None 0 0
   counting_start =
       let l : List Record = chosen (records_of list) (bits_of (length list / 12) choice) in
       record {
@@ -40,7 +39,7 @@ module _ (list choice : List ℕ) where
   module _ (n i : ℕ) (o : Open) (e s : ℕ) (g : Counting list choice n i o e s) where
     -- r is record i by its choice byte
     pub counting_next : (r : Record) → r ≡ chosen_record (bit_at choice i) (record_of (row_at list i)) → i < n → (d m : ℕ) → d ≡ cond (follows o r) 0 1 → m ≡ stored (r ∷ [])
-        → Counting list choice n (i + 1) (One r) (e + d) (s + m)
+        → Counting list choice n (i + 1) (Some r) (e + d) (s + m)
     counting_next r is h d m d_is m_is =
         let next = chosen_from_next list choice n i r is h in
         record {

@@ -1,9 +1,7 @@
 -- The call estimate (section 4.8): cost, entries and stored bytes as partition would give them; it writes the choice area alone and needs no other.
 -- Assumes nothing.
 use Rattle.std.specs.Prelude.{ℕ, ◌≡◌, List, length}
-use Rattle.format.specs.declared.Ruling.{Ruling}
-use Rattle.format.specs.declared.Answer.{Answer}
-use Rattle.format.specs.Refusal.{unless_refused}
+use Rattle.format.specs.Refusal.{Ruling, Answer, unless_refused}
 use Rattle.price.specs.declared.Price.{Price}
 use Rattle.price.specs.Price.{rates_of}
 use Rattle.area.specs.Area.{over}

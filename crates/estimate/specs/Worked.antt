@@ -1,14 +1,12 @@
 -- Worked examples of estimate, as one table: the disk bytes that an entry costs, the list, the version, and the area for the choice before the call;
 -- then the answer, and the area after it. The store of all is 65 66 67 68.
 -- Assumes nothing.
-use Rattle.std.specs.Prelude.{ℕ, ◌*◌, ◌≡◌, List, [], ◌∷◌, map}
+use Rattle.std.specs.Prelude.{ℕ, ◌*◌, ◌≡◌, List, [], ◌∷◌, map, Ok, Err}
 use Rattle.format.specs.declared.Source.{Source}
 use Rattle.format.specs.declared.Fault.TheVariants as fault
 use Rattle.format.specs.declared.Record.{Record}
 use Rattle.format.specs.declared.Record.TheVariants.{New, Match}
-use Rattle.format.specs.declared.Answer.{Answer}
-use Rattle.format.specs.declared.Answer.TheVariants.{Accepted, Refused}
-use Rattle.format.specs.Refusal.{refuse}
+use Rattle.format.specs.Refusal.{Answer, refuse}
 use Rattle.format.specs.Record.{free_at, held_at, encode}
 use Rattle.price.specs.declared.Price.{Price}
 use Rattle.estimate.specs.Estimate.{estimate_answer, estimate_area}
@@ -26,7 +24,7 @@ worked e l v b t a = record { entry = e; list = l; version = v; before = b; told
 
 -- so many disk bytes, entries and stored bytes
 abbrev pub accepted : ℕ → ℕ → ℕ → Answer
-accepted n e s = Accepted (record { cost = 256 * n; entries = e; stored = s; looks = 0; whole = 0 })
+accepted n e s = Ok (record { cost = 256 * n; entries = e; stored = s; looks = 0; whole = 0 })
 
 -- N1 M2, the match drawn from a; and its version for the address 0
 abbrev pub pair : Source → List Record
@@ -46,11 +44,11 @@ table =
     -- matches that go on in the store are one entry, with a byte of choice each; bytes beyond are unchanged
     ∷ worked 3 (Match 2 (free_at 0) ∷ Match 2 (free_at 2) ∷ []) (65 ∷ 66 ∷ 67 ∷ 68 ∷ []) (7 ∷ 7 ∷ 7 ∷ 7 ∷ []) (accepted 3 1 0) (0 ∷ 0 ∷ 7 ∷ 7 ∷ [])
     -- refused, and nothing is written: the match differs; the short end; 9 by the area for the choice, before both; 1 before that
-    ∷ worked 3 (pair (free_at 1)) v (7 ∷ 7 ∷ []) (Refused (refuse fault.Mismatch 1)) (7 ∷ 7 ∷ [])
-    ∷ worked 3 (pair (free_at 0)) (90 ∷ 65 ∷ 66 ∷ 67 ∷ []) (7 ∷ 7 ∷ []) (Refused (refuse fault.Sizes 2)) (7 ∷ 7 ∷ [])
-    ∷ worked 3 (pair (free_at 1)) v (7 ∷ []) (Refused (refuse fault.AreaTooShort 0)) (7 ∷ [])
-    ∷ worked 3 (pair (free_at 0)) (90 ∷ 65 ∷ 66 ∷ 67 ∷ []) (7 ∷ []) (Refused (refuse fault.AreaTooShort 0)) (7 ∷ [])
-    ∷ worked 0 (pair (free_at 0)) v (7 ∷ []) (Refused (refuse fault.Price 0)) (7 ∷ [])
+    ∷ worked 3 (pair (free_at 1)) v (7 ∷ 7 ∷ []) (Err (refuse fault.Mismatch 1)) (7 ∷ 7 ∷ [])
+    ∷ worked 3 (pair (free_at 0)) (90 ∷ 65 ∷ 66 ∷ 67 ∷ []) (7 ∷ 7 ∷ []) (Err (refuse fault.Sizes 2)) (7 ∷ 7 ∷ [])
+    ∷ worked 3 (pair (free_at 1)) v (7 ∷ []) (Err (refuse fault.AreaTooShort 0)) (7 ∷ [])
+    ∷ worked 3 (pair (free_at 0)) (90 ∷ 65 ∷ 66 ∷ 67 ∷ []) (7 ∷ []) (Err (refuse fault.AreaTooShort 0)) (7 ∷ [])
+    ∷ worked 0 (pair (free_at 0)) v (7 ∷ []) (Err (refuse fault.Price 0)) (7 ∷ [])
     ∷ []
 
 -- an example as the definition has it

@@ -8,26 +8,15 @@ ghost use Rattle.format.specs.Meaning.{stored};
 ghost use Rattle.estimate.specs.Estimate.{estimate_answer, estimate_area};
 ghost use Rattle.estimate.specs.Count.{CountReady, CountsOf};
 
+use admit::Rooms;
 use format::{Answer, Figures, Record};
-use join::Open;
 use price::Price;
-use walk::Walked;
 
 // The entries of a list, and its stored bytes.
-#[derive(Clone, Copy)]
+#[derive(Clone, Copy, Debug, PartialEq, Eq)]
 pub struct Counts {
     pub entries: u32,
     pub stored: u32,
-}
-
-// The stored bytes of a record.
-fn stored_in(record: Record) -> u32
-    ensures { result ≡ stored («record» ∷ []) }
-{
-    match record {
-        Record::New(size) => size,
-        Record::Match(_, _) => 0,
-    }
 }
 
 // The entries and the stored bytes of the choice's list.
@@ -35,17 +24,14 @@ fn count(list: &[u8], choice: &[u8]) -> Counts
     requires { CountReady list.now choice.now }
     ensures { CountsOf list.now choice.now result }
 {
-    let n = list.len() / 12;
-    let mut last = Open::No;
+    let mut last = None;
     let mut entries: u32 = 0;
     let mut stored: u32 = 0;
-    let mut i = 0;
-    while i < n {
+    for i in 0..list.len() / 12 {
         let record = choice::chosen(format::record_at(list, i), choice[i]);
         entries += join::entries_in(last, record);
-        stored += stored_in(record);
-        last = Open::One(record);
-        i += 1;
+        stored += format::stored_in(record);
+        last = Some(record);
     }
     Counts { entries, stored }
 }
@@ -61,25 +47,21 @@ pub fn estimate(
     ensures answered { result ≡ estimate_answer price list.now version.now store.now choice.old }
     ensures choice_after { choice.new ≡ estimate_area price list.now version.now store.now choice.old }
 {
-    let w = admit::admit(
-        price,
-        list,
-        version,
-        store,
-        choice.len(),
-        list.len(),
-        version.len(),
-    );
-    let Walked::Through(_totals) = w else {
-        return Answer::Refused(walk::refusal_of(w));
+    let rooms = Rooms {
+        choice: choice.len(),
+        list: list.len(),
+        block: version.len(),
+    };
+    let w = admit::admit(price, list, version, store, rooms);
+    let Ok(_totals) = w else {
+        return Err(w.unwrap_err());
     };
     let cost = sweep::least_choice(price::rates_of(price), list, choice);
     let counts = count(list, choice);
-    Answer::Accepted(Figures {
+    Ok(Figures {
         cost: cost.0,
         entries: counts.entries,
         stored: counts.stored,
-        looks: 0,
-        whole: 0,
+        ..Figures::default()
     })
 }

@@ -8,20 +8,20 @@ ghost use Rattle.call_partition.specs.Partition.{Partitioned};
 use format::Answer;
 use price::Price;
 
-// What rebuild and partition answered.
-#[derive(Clone, Copy)]
+// What rebuild and partition answered. Not a pair, as `demonstrate` names each by its call.
+#[derive(Clone, Copy, Debug, PartialEq, Eq)]
 pub struct Both {
     pub rebuilt: Answer,
     pub again: Answer,
 }
 
 // Rebuild and partition, each given the list that was written, and what else it needs.
-pub fn hand_on<'a>(
+pub fn hand_on(
     price: Price,
     list: &[u8],
-    block: &'a [u8],
-    version: &'a [u8],
-    store: &'a [u8],
+    block: &[u8],
+    version: &[u8],
+    store: &[u8],
     out: &mut [u8],
     choice2: &mut [u8],
     list2: &mut [u8],

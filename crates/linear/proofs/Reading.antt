@@ -3,26 +3,29 @@
 use Prim.Native.Nat.{ℕ, zero, suc, ◌+◌, ◌-◌, ◌/◌, ◌≤◌, ◌<◌}
 use native.Mathlib.Omega.{arith}
 use native.Mathlib.Numerals.{add-one}
-use mathlib.Core.Path.{◌≡◌, refl, sym, ap, ap₂, subst, ◌∙◌}
-use mathlib.Core.Bool.{Bool, true, false, cond}
+use mathlib.Core.Path.{◌≡◌, refl, sym, ap, ap₂, ◌∙◌}
+use mathlib.Core.Bool.{Bool, true, false}
 use mathlib.Core.List.{List, [], ◌∷◌, ◌++◌}
-use lib.Dec.{eqb, ltb}
+use lib.Dec.{ltb}
 use lib.ListN.{length, get_or, take, drop, set}
 use lib.Seq.{append_snoc, set_split}
 use borrow.Author.Tests.{ltb-true, ltb-false, lt-ltb, le-ltb}
 use Rattle.format.specs.declared.Record.{Record}
 use Rattle.format.specs.Record.{from, row_at, record_of, records_of, records_from}
 use Rattle.format.specs.Meaning.{size_of}
-use Rattle.format.proofs.Rows.{from_next, from_none, records_from_next, records_from_none, records_from_all, length_records_of}
-use Rattle.choice.specs.Choice.{Bit, keep, store, bit_byte, bit_bytes, IsChoice}
+use Rattle.format.proofs.Rows.{from_next, from_none, records_from_next, records_from_all, length_records_of}
+use Rattle.choice.specs.Choice.{Bit, bit_byte, bit_bytes, IsChoice}
 use Rattle.choice.proofs.Lists.{length_bits, length_choice}
-use Rattle.area.specs.Area.{pasted, over}
-use Rattle.area.proofs.Filling.{Filling, filling_start, filling_put, filling_end}
+use Rattle.area.specs.Area.{pasted}
+use Rattle.area.proofs.Filling.{Filling, filling_start, filling_put}
+use Rattle.rules.specs.declared.Cell.{Cell}
+use Rattle.rules.specs.declared.Kind.{Kind}
+use Rattle.rules.specs.declared.Kind.TheVariants as kind
 use Rattle.rules.specs.Rules.{Item, new, match, neither, size, item_of}
-use Rattle.rules.proofs.ByKind.{size_item, new_item}
+use Rattle.rules.proofs.ByKind.{size_item}
 use Rattle.machine.specs.declared.Machine.{Machine}
 use Rattle.linear.specs.Pass.{shrunk, cut, bit_for, choice_of}
-use Rattle.machine.specs.Machine.{item_in}
+use Rattle.machine.specs.Machine.{item_in, cell_in}
 use Rattle.linear.specs.Carried.{end_of, Covering}
 use Rattle.machine.proofs.Gap.{rest_below}
 
@@ -43,34 +46,30 @@ abbrev headed : ℕ → List Item → List Item
 headed u [] = []
 headed u (x ∷ l) = resized u x ∷ l
 
-resized_item : (u k s : ℕ) → resized u (item_of k s) ≡ item_of k u
-resized_item u k s = go (eqb k 0) (eqb k 1)
-  where
-    go : (a b : Bool) → resized u (cond a (new s) (cond b (match s) (neither s))) ≡ cond a (new u) (cond b (match u) (neither u))
-    go true b = refl
-    go false true = refl
-    go false false = refl
+resized_item : (u : ℕ) (k : Kind) (s : ℕ) → resized u (item_of k s) ≡ item_of k u
+resized_item u kind.New s = refl
+resized_item u kind.Match s = refl
+resized_item u kind.Neither s = refl
 
-shrunk_item : (k u s : ℕ) → shrunk (item_of k u) s ≡ item_of k (u - s)
-shrunk_item k u s = go (eqb k 0) (eqb k 1)
-  where
-    go : (a b : Bool) → shrunk (cond a (new u) (cond b (match u) (neither u))) s ≡ cond a (new (u - s)) (cond b (match (u - s)) (neither (u - s)))
-    go true b = refl
-    go false true = refl
-    go false false = refl
+shrunk_item : (k : Kind) (u s : ℕ) → shrunk (item_of k u) s ≡ item_of k (u - s)
+shrunk_item kind.New u s = refl
+shrunk_item kind.Match u s = refl
+shrunk_item kind.Neither u s = refl
 
-bit_item : (k u : ℕ) → bit_for (item_of k u) ≡ bit_for (item_of k 0)
-bit_item k u = ap (λ (t : Bool). cond t store keep) (new_item k u ∙ sym (new_item k 0))
+bit_item : (k : Kind) (u : ℕ) → bit_for (item_of k u) ≡ bit_for (item_of k 0)
+bit_item kind.New u = refl
+bit_item kind.Match u = refl
+bit_item kind.Neither u = refl
 
 -- the items of m from place `at` on, of which the first has so many bytes uncovered
 abbrev pub to_cover : Machine → ℕ → ℕ → List Item
 to_cover m at u = headed u (from (item_in m) at (m.left - at))
 
 module _ (m : Machine) where
-  cover_next : (at u : ℕ) → at < m.left → to_cover m at u ≡ item_of (get_or m.kinds at 0) u ∷ from (item_in m) (at + 1) (m.left - (at + 1))
+  cover_next : (at u : ℕ) → at < m.left → to_cover m at u ≡ item_of (get_or m.kinds at kind.New) u ∷ from (item_in m) (at + 1) (m.left - (at + 1))
   cover_next at u h =
       ap (headed u) (from_next (item_in m) at m.left h)
-      ∙ ap (λ (x : Item). x ∷ from (item_in m) (at + 1) (m.left - (at + 1))) (resized_item u (get_or m.kinds at 0) (get_or m.sizes at 0))
+      ∙ ap (λ (x : Item). x ∷ from (item_in m) (at + 1) (m.left - (at + 1))) (resized_item u (get_or m.kinds at kind.New) (get_or m.sizes at 0))
 
   cover_none : (at u : ℕ) → m.left ≤ at → to_cover m at u ≡ []
   cover_none at u h = ap (headed u) (from_none (item_in m) at m.left h)
@@ -80,24 +79,24 @@ module _ (m : Machine) where
     where
       go : (n : ℕ) → headed (get_or m.sizes at 0) (from (item_in m) at n) ≡ from (item_in m) at n
       go zero = refl
-      go (suc n) = ap (λ (x : Item). x ∷ from (item_in m) (at + 1) n) (resized_item (get_or m.sizes at 0) (get_or m.kinds at 0) (get_or m.sizes at 0))
+      go (suc n) = ap (λ (x : Item). x ∷ from (item_in m) (at + 1) n) (resized_item (get_or m.sizes at 0) (get_or m.kinds at kind.New) (get_or m.sizes at 0))
 
   cover_start : to_cover m 1 (get_or m.sizes 1 0) ≡ end_of m
   cover_start = cover_whole 1 ∙ sym (rest_below m.kinds m.sizes m.left)
 
 -- ---- what holds before record i
 
-pub record Off (m : Machine) (list before : List ℕ) (area : List ℕ) (at u i : ℕ) : Type 0 where
-  pub in_n : i ≤ length list / 12
+pub record Off (m : Machine) (list before : List ℕ) (area : List ℕ) (at : ℕ) (c : Cell) (i : ℕ) : Type 0 where
+  pub kind_is : c.kind ≡ get_or m.kinds at kind.New
   pub at_most : at ≤ i + 1
-  pub covered : IsChoice (records_from list (length list / 12) i) (choice_of (records_from list (length list / 12) i) (to_cover m at u))
-  pub filling : Filling (bit_bytes (choice_of (records_of list) (end_of m))) before area i (bit_bytes (choice_of (records_from list (length list / 12) i) (to_cover m at u)))
+  pub covered : IsChoice (records_from list (length list / 12) i) (choice_of (records_from list (length list / 12) i) (to_cover m at c.size))
+  pub filling : Filling (bit_bytes (choice_of (records_of list) (end_of m))) before area i (bit_bytes (choice_of (records_from list (length list / 12) i) (to_cover m at c.size)))
 
 module _ {m : Machine} {list before : List ℕ} (h : Covering m list before) where
-  pub off_start : Off m list before before 1 (get_or m.sizes 1 0) 0
+  pub off_start : Off m list before before 1 (cell_in m 1) 0
   off_start =
       record {
-        in_n = omega arith;
+        kind_is = refl;
         at_most = omega arith;
         covered = rw (cover_start m, ← records_from_all list) h.covered;
         filling = rw (cover_start m, ← records_from_all list) (filling_start (bit_bytes (choice_of (records_of list) (end_of m))) before);
@@ -108,12 +107,7 @@ module _ {m : Machine} {list before : List ℕ} (h : Covering m list before) whe
       let c = choice_of (records_of list) (end_of m) in
       omega (arith, length_bits c, length_choice (records_of list) c h.covered, h.room)
 
-  pub off_end : {area : List ℕ} {at u i : ℕ} → Off m list before area at u i → length list / 12 ≤ i → area ≡ over (bit_bytes (choice_of (records_of list) (end_of m))) before
-  unfolding choice_of
-  off_end {area} {at} {u} {i} o g =
-      filling_end (subst (λ (rs : List Record). Filling (bit_bytes (choice_of (records_of list) (end_of m))) before area i (bit_bytes (choice_of rs (to_cover m at u)))) (records_from_none list (length list / 12) i g) o.filling)
-
-  module _ {area : List ℕ} {at u i : ℕ} (o : Off m list before area at u i) (g : i < length list / 12) where
+  module _ {area : List ℕ} {at : ℕ} {c : Cell} {i : ℕ} (o : Off m list before area at c i) (g : i < length list / 12) where
     pub off_room : i < length area
     off_room = omega (arith, o.filling.same, h.room, length_records_of list)
 
@@ -133,43 +127,43 @@ module _ {m : Machine} {list before : List ℕ} (h : Covering m list before) whe
 
         go : (t : Bool) → ltb at m.left ≡ t → at < m.left
         go true e = ltb-true at m.left e
-        go false e = absurd (no (rw (records_from_next list (length list / 12) i g, cover_none m at u (ltb-false at m.left e)) at o.covered))
+        go false e = absurd (no (rw (records_from_next list (length list / 12) i g, cover_none m at c.size (ltb-false at m.left e)) at o.covered))
 
-    opened : choice_of (records_from list (length list / 12) i) (to_cover m at u)
-        ≡ bit_for (item_of (get_or m.kinds at 0) 0) ∷ choice_of rest_of (cut (size_of here) (item_of (get_or m.kinds at 0) u) (from (item_in m) (at + 1) (m.left - (at + 1))))
+    opened : choice_of (records_from list (length list / 12) i) (to_cover m at c.size)
+        ≡ bit_for (item_of (get_or m.kinds at kind.New) 0) ∷ choice_of rest_of (cut (size_of here) (item_of (get_or m.kinds at kind.New) c.size) (from (item_in m) (at + 1) (m.left - (at + 1))))
     unfolding choice_of
     opened =
-        ap₂ choice_of (records_from_next list (length list / 12) i g) (cover_next m at u at_hand)
-        ∙ ap (λ (b : Bit). b ∷ choice_of rest_of (cut (size_of here) (item_of (get_or m.kinds at 0) u) (from (item_in m) (at + 1) (m.left - (at + 1))))) (bit_item (get_or m.kinds at 0) u)
+        ap₂ choice_of (records_from_next list (length list / 12) i g) (cover_next m at c.size at_hand)
+        ∙ ap (λ (b : Bit). b ∷ choice_of rest_of (cut (size_of here) (item_of (get_or m.kinds at kind.New) c.size) (from (item_in m) (at + 1) (m.left - (at + 1))))) (bit_item (get_or m.kinds at kind.New) c.size)
 
-    module _ (at' u' : ℕ) (a : at' ≤ i + 2) (e : cut (size_of here) (item_of (get_or m.kinds at 0) u) (from (item_in m) (at + 1) (m.left - (at + 1))) ≡ to_cover m at' u') where
-      off_next : {b : ℕ} → b ≡ bit_byte (bit_for (item_of (get_or m.kinds at 0) 0)) → Off m list before (set area i b) at' u' (i + 1)
+    module _ (at' : ℕ) (c' : Cell) (k : c'.kind ≡ get_or m.kinds at' kind.New) (a : at' ≤ i + 2) (e : cut (size_of here) (item_of (get_or m.kinds at kind.New) c.size) (from (item_in m) (at + 1) (m.left - (at + 1))) ≡ to_cover m at' c'.size) where
+      off_next : {b : ℕ} → b ≡ bit_byte (bit_for (item_of c.kind 0)) → Off m list before (set area i b) at' c' (i + 1)
       off_next {b} d =
-          let c = choice_of rest_of (to_cover m at' u') in
-          let is : choice_of (records_from list (length list / 12) i) (to_cover m at u) ≡ bit_for (item_of (get_or m.kinds at 0) 0) ∷ c = opened ∙ ap (λ (l : List Item). bit_for (item_of (get_or m.kinds at 0) 0) ∷ choice_of rest_of l) e in
-          let v : IsChoice (records_from list (length list / 12) i) (bit_for (item_of (get_or m.kinds at 0) 0) ∷ c) = rw is at o.covered in
-          let w : IsChoice (here ∷ rest_of) (bit_for (item_of (get_or m.kinds at 0) 0) ∷ c) = rw (records_from_next list (length list / 12) i g) at v in
-          let f : Filling (bit_bytes (choice_of (records_of list) (end_of m))) before area i (b ∷ bit_bytes c) = rw d (rw is at o.filling) in
+          let d' = choice_of rest_of (to_cover m at' c'.size) in
+          let is : choice_of (records_from list (length list / 12) i) (to_cover m at c.size) ≡ bit_for (item_of (get_or m.kinds at kind.New) 0) ∷ d' = opened ∙ ap (λ (l : List Item). bit_for (item_of (get_or m.kinds at kind.New) 0) ∷ choice_of rest_of l) e in
+          let v : IsChoice (records_from list (length list / 12) i) (bit_for (item_of (get_or m.kinds at kind.New) 0) ∷ d') = rw is at o.covered in
+          let w : IsChoice (here ∷ rest_of) (bit_for (item_of (get_or m.kinds at kind.New) 0) ∷ d') = rw (records_from_next list (length list / 12) i g) at v in
+          let f : Filling (bit_bytes (choice_of (records_of list) (end_of m))) before area i (b ∷ bit_bytes d') = rw d (rw o.kind_is (rw is at o.filling)) in
           record {
-            in_n = omega arith;
+            kind_is = k;
             at_most = omega arith;
             covered = w.1;
-            filling = filling_put (b ∷ []) (bit_bytes c) f fits (set area i b) (i + 1) (set_pasted area i b off_room) refl;
+            filling = filling_put (b ∷ []) (bit_bytes d') f fits (set area i b) (i + 1) (set_pasted area i b off_room) refl;
           }
 
-    -- the record leaves some of the item uncovered
-    pub off_within : size_of here < u → {b : ℕ} → b ≡ bit_byte (bit_for (item_of (get_or m.kinds at 0) 0)) → Off m list before (set area i b) at (u - size_of here) (i + 1)
-    off_within k =
-        let s = size_item (get_or m.kinds at 0) u in
-        let e : cut (size_of here) (item_of (get_or m.kinds at 0) u) (from (item_in m) (at + 1) (m.left - (at + 1))) ≡ to_cover m at (u - size_of here) =
-        rw (lt-ltb (size_of here) (size (item_of (get_or m.kinds at 0) u)) (omega arith))
-        (ap (λ (x : Item). x ∷ from (item_in m) (at + 1) (m.left - (at + 1))) (shrunk_item (get_or m.kinds at 0) u (size_of here)) ∙ sym (cover_next m at (u - size_of here) at_hand)) in
-        off_next at (u - size_of here) (omega (arith, o.at_most)) e
+    -- the record, of s bytes, leaves some of the item uncovered
+    pub off_within : {s : ℕ} → s ≡ size_of here → s < c.size → {b : ℕ} → b ≡ bit_byte (bit_for (item_of c.kind 0)) → Off m list before (set area i b) at (record c { size = c.size - s }) (i + 1)
+    off_within {s} z k =
+        let w = size_item (get_or m.kinds at kind.New) c.size in
+        let e : cut (size_of here) (item_of (get_or m.kinds at kind.New) c.size) (from (item_in m) (at + 1) (m.left - (at + 1))) ≡ to_cover m at (c.size - s) =
+        rw (← z, lt-ltb s (size (item_of (get_or m.kinds at kind.New) c.size)) (omega arith))
+        (ap (λ (x : Item). x ∷ from (item_in m) (at + 1) (m.left - (at + 1))) (shrunk_item (get_or m.kinds at kind.New) c.size s) ∙ sym (cover_next m at (c.size - s) at_hand)) in
+        off_next at (record c { size = c.size - s }) o.kind_is (omega (arith, o.at_most)) e
 
-    -- the record ends the item
-    pub off_beyond : u ≤ size_of here → {b : ℕ} → b ≡ bit_byte (bit_for (item_of (get_or m.kinds at 0) 0)) → Off m list before (set area i b) (at + 1) (get_or m.sizes (at + 1) 0) (i + 1)
-    off_beyond k =
-        let s = size_item (get_or m.kinds at 0) u in
-        let e : cut (size_of here) (item_of (get_or m.kinds at 0) u) (from (item_in m) (at + 1) (m.left - (at + 1))) ≡ to_cover m (at + 1) (get_or m.sizes (at + 1) 0) =
-        rw (le-ltb (size_of here) (size (item_of (get_or m.kinds at 0) u)) (omega arith)) (sym (cover_whole m (at + 1))) in
-        off_next (at + 1) (get_or m.sizes (at + 1) 0) (omega (arith, o.at_most)) e
+    -- the record, of s bytes, ends the item
+    pub off_beyond : {s : ℕ} → s ≡ size_of here → c.size ≤ s → {b : ℕ} → b ≡ bit_byte (bit_for (item_of c.kind 0)) → Off m list before (set area i b) (at + 1) (cell_in m (at + 1)) (i + 1)
+    off_beyond {s} z k =
+        let w = size_item (get_or m.kinds at kind.New) c.size in
+        let e : cut (size_of here) (item_of (get_or m.kinds at kind.New) c.size) (from (item_in m) (at + 1) (m.left - (at + 1))) ≡ to_cover m (at + 1) (get_or m.sizes (at + 1) 0) =
+        rw (← z, le-ltb s (size (item_of (get_or m.kinds at kind.New) c.size)) (omega arith)) (sym (cover_whole m (at + 1))) in
+        off_next (at + 1) (cell_in m (at + 1)) refl (omega (arith, o.at_most)) e

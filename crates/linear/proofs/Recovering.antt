@@ -8,6 +8,7 @@ use mathlib.Core.Path.{◌≡◌, refl, sym, ap, subst, ◌∙◌}
 use mathlib.Core.Bool.{Bool, true, false, not, cond}
 use mathlib.Core.List.{List, [], ◌∷◌}
 use borrow.Author.Tests.{lt-ltb, le-ltb}
+use Rattle.std.proofs.Math.Bool.{and-false}
 use Rattle.format.specs.declared.Source.{Source}
 use Rattle.format.specs.declared.Record.{Record}
 use Rattle.format.specs.declared.Record.TheVariants.{New, Match}
@@ -21,7 +22,6 @@ use Rattle.choice.proofs.Least.{match_may_keep}
 use Rattle.choice.proofs.Lists.{kept_apart, size_chosen, sized_list}
 use Rattle.choice.proofs.Unjoining.{keep_store, unjoined, carried, spared}
 use Rattle.rules.specs.Rules.{Item, new, size, is_new}
-use Rattle.rules.proofs.ByKind.{and_false}
 use Rattle.machine.specs.Looks.{first}
 use Rattle.linear.specs.Pass.{drawn, item_for, items, cut, bit_for, choice_of}
 use Rattle.linear.proofs.Items.{new_drawn, size_for, shrunk_grown}
@@ -129,7 +129,7 @@ module _ (s : ℕ) (a : Source) (js : List Record) (ih : (j : Bool) (is : List I
       found_stored (Match s a) js (rw e tt) i (items_join s (list_of js i.choice) ys i.listed n.0) (λ k b. rw b (i.alone false tt))
   found_match false e j is n (more_match {b = t} {ys} d) =
       let i = ih true (new t ∷ ys) n d in
-      found_stored (Match s a) js (rw e tt) i (items_join_new s t (list_of js i.choice) ys i.listed) (λ k b. rw (i.begins, and_false k) (i.alone false refl))
+      found_stored (Match s a) js (rw e tt) i (items_join_new s t (list_of js i.choice) ys i.listed) (λ k b. rw (i.begins, and-false k) (i.alone false refl))
 
 found : {j : Bool} (js : List Record) (is : List Item) → Settled js → Tidy is → Fused j (items js) is → Found j js is
 found [] is h n none = record { choice = []; fits = tt; listed = refl; begins = refl; alone = λ k b. refl }

@@ -5,16 +5,18 @@ use Rattle.format.specs.declared.Record.{Record}
 use Rattle.format.specs.declared.Record.TheVariants.{New, Match}
 use Rattle.format.specs.Record.{records_of}
 use Rattle.choice.specs.Choice.{IsChoice}
+use Rattle.rules.specs.declared.Kind.{Kind}
+use Rattle.rules.specs.declared.Kind.TheVariants as kind
 use Rattle.rules.specs.Rules.{Item}
 use Rattle.machine.specs.declared.Machine.{Machine}
 use Rattle.machine.specs.Looks.{rest, joined}
 use Rattle.machine.specs.Machine.{rear_at, left_of}
 use Rattle.linear.specs.Pass.{choice_of}
 
--- the kind of a record in a cell: 0 new, 1 match, 2 a held match
-abbrev pub kind_of : Record → ℕ
-kind_of (New s) = 0
-kind_of (Match s a) = cond a.held 2 1
+-- the kind of a record in a cell: a held match is of neither
+abbrev pub kind_of : Record → Kind
+kind_of (New s) = kind.New
+kind_of (Match s a) = cond a.held kind.Neither kind.Match
 
 -- the end list of a machine, without its front mark
 abbrev pub end_of : Machine → List Item

@@ -19,31 +19,26 @@ ghost use Rattle.linear.specs.Carried.{kind_of, end_of, Covering};
 use format::Record;
 use machine::Machine;
 use price::Rates;
+use rules::{Cell, Kind};
 
-// The kind of a record: 0 new, 1 match, 2 a held match, which is of neither kind.
-fn kind_of(record: Record) -> u8
+// The kind of a record: a held match is of neither.
+fn kind_of(record: Record) -> Kind
     ensures { result ≡ kind_of «record» }
 {
     match record {
-        Record::New(_) => 0,
-        Record::Match(_, source) => {
-            if source.held {
-                return 2;
-            }
-            1
-        }
+        Record::New(_) => Kind::New,
+        Record::Match(_, source) if source.held => Kind::Neither,
+        Record::Match(_, _) => Kind::Match,
     }
 }
 
 // Whether record i of n joins the next one.
+#[tactic(auto, using(format::proofs::Rows::records_from_next))]
 fn joins_next(list: &[u8], n: usize, i: usize) -> bool
     requires { (i < n) × (12 * n ≤ length list.now) }
     ensures { result ≡ joins_first (record_of (row_at list.now i)) (records_from list.now n (i + 1)) }
 {
-    if i + 1 == n {
-        return false;
-    }
-    join::joins(format::record_at(list, i), format::record_at(list, i + 1))
+    i + 1 < n && join::joins(format::record_at(list, i), format::record_at(list, i + 1))
 }
 
 // A list before the pass, each run of records that join as one: the front mark at place 0, the records in the last places before the rear mark, p at
@@ -53,58 +48,50 @@ fn load(list: &[u8]) -> Machine
     ensures { Loaded result (items (tidy (records_of list.now))) }
 {
     let n = list.len() / 12;
-    let mut kinds = [2u8; 4098];
-    let mut sizes = [0u32; 4098];
-    let mut i = n;
-    let mut right: usize = machine::REAR;
-    while 0 < i {
-        i -= 1;
-        let record = format::record_at(list, i);
-        let kind = kind_of(record);
-        let size = format::size_of(record);
-        if joins_next(list, n, i) {
-            kinds[right] = kind;
-            sizes[right] = size + sizes[right];
-        } else {
-            right -= 1;
-            kinds[right] = kind;
-            sizes[right] = size;
-        }
-    }
-    Machine {
-        kinds,
-        sizes,
+    let mut loaded = Machine {
+        kinds: [Kind::Neither; machine::PLACES],
+        sizes: [0; machine::PLACES],
         left: 1,
-        right,
+        right: machine::REAR,
+    };
+    for i in (0..n).rev() {
+        let record = format::record_at(list, i);
+        let mut size = format::size_of(record);
+        if joins_next(list, n, i) {
+            size += loaded.cell(loaded.right).size;
+        } else {
+            loaded.right -= 1;
+        }
+        let at = loaded.right;
+        let kind = kind_of(record);
+        loaded.store(at, Cell { kind, size });
     }
+    loaded
 }
 
 // The choice byte of a record that an item of this kind covers.
-fn bit_of(kind: u8) -> u8
+fn bit_of(kind: Kind) -> u8
     ensures { result ≡ bit_byte (bit_for (item_of kind 0)) }
 {
-    if kind == 0 { 1 } else { 0 }
+    u8::from(kind == Kind::New)
 }
 
 // Writes one choice byte for each record, in one traversal of the records and of the last list's items, by their sizes.
-fn read_off(machine: Machine, list: &[u8], choice: &mut [u8])
-    requires { Covering machine list.now choice.old }
-    ensures { choice.new ≡ over (bit_bytes (choice_of (records_of list.now) (end_of machine))) choice.old }
+fn read_off(machine: &Machine, list: &[u8], choice: &mut [u8])
+    requires { Covering machine.now list.now choice.old }
+    ensures { choice.new ≡ over (bit_bytes (choice_of (records_of list.now) (end_of machine.now))) choice.old }
 {
     let n = list.len() / 12;
     let mut at: usize = 1;
-    let mut uncovered = machine.sizes[1];
-    let mut i = 0;
-    while i < n {
-        let record = format::record_at(list, i);
-        let size = format::size_of(record);
-        choice[i] = bit_of(machine.kinds[at]);
-        i += 1;
-        if size < uncovered {
-            uncovered -= size;
+    let mut uncovered = machine.cell(1);
+    for i in 0..n {
+        let size = format::size_of(format::record_at(list, i));
+        choice[i] = bit_of(uncovered.kind);
+        if size < uncovered.size {
+            uncovered.size -= size;
         } else {
             at += 1;
-            uncovered = machine.sizes[at];
+            uncovered = machine.cell(at);
         }
     }
 }
@@ -114,8 +101,8 @@ pub fn pass_choice(rates: Rates, list: &[u8], choice: &mut [u8]) -> u32
     requires { Passable rates list.now choice.old }
     ensures { PassIn rates list.now choice.old choice.new result }
 {
-    let mut loaded = load(list);
-    let looks = machine::look_through(&mut loaded, rates);
-    read_off(loaded, list, choice);
+    let mut machine = load(list);
+    let looks = machine.look_through(rates);
+    read_off(&machine, list, choice);
     looks
 }

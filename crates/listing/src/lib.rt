@@ -1,89 +1,50 @@
 // The text of the program `partition` for files that were all read: the list of the least choice and the figures of both calls, or a refusal.
 //
-// Not here: what a bad file's text is (crate `program`), and reading and writing (crate `console`).
+// Not here: what a bad file's text is (crate `program`), and reading (crate `console`).
 #![tactic(auto)]
 
-ghost use Rattle.format.specs.Record.{records_of};
-ghost use Rattle.price.specs.Price.{rates_of};
-ghost use Rattle.report.specs.Text.{Written};
-ghost use Rattle.admit.specs.Admit.{findings};
-ghost use Rattle.listing.specs.Program.{text_for, program_text, Roomy, Fits};
+ghost use Rattle.report.specs.Text.{Wrote};
+ghost use Rattle.listing.specs.Program.{program_text, Fits};
 
-use format::{Answer, Figures};
 use price::Price;
+use report::Text;
 
-// The text, where the pass has the figures y.
-fn listed(
-    price: Price,
-    list: &[u8],
-    version: &[u8],
-    store: &[u8],
-    choice: &mut [u8],
-    list_area: &mut [u8],
-    block_area: &mut [u8],
-    text: &mut [u8],
-    y: Figures,
-) -> usize
-    requires { Roomy list.now version.now choice.old list_area.old block_area.old text.old }
-    ensures { Written 0 (text_for (findings price list.now version.now store.now) (rates_of price) (records_of list.now) y) text.old result text.new }
-{
-    let answer = call_partition::partition(
-        price, list, version, store, choice, list_area, block_area,
-    );
-    match answer {
-        Answer::Refused(r) => report::refusal(text, r),
-        Answer::Accepted(x) => {
-            let n = 12 * format::index(x.entries);
-            report::report(text, &list_area[0..n], x, y)
-        }
-    }
-}
-
-// The text of the program, and its length. The pass comes first, so that its areas can then be partition's.
-fn text_of(
-    price: Price,
-    list: &[u8],
-    version: &[u8],
-    store: &[u8],
-    choice: &mut [u8],
-    list_area: &mut [u8],
-    block_area: &mut [u8],
-    text: &mut [u8],
-) -> usize
-    requires { Roomy list.now version.now choice.old list_area.old block_area.old text.old }
-    ensures { Written 0 (program_text price list.now version.now store.now) text.old result text.new }
-{
-    let answer = call_pass::pass(price, list, version, store, choice, list_area, block_area);
-    match answer {
-        Answer::Refused(r) => report::refusal(text, r),
-        Answer::Accepted(y) => listed(
-            price, list, version, store, choice, list_area, block_area, text, y,
-        ),
-    }
-}
-
-// The text for files that were all read.
-pub fn text_of_held(
-    price: Price,
-    items: &[u8],
-    version: &[u8],
-    store: &[u8],
-    text: &mut [u8],
-) -> usize
+// The text for files that were all read. The pass comes first, so that its areas can then be partition's.
+pub fn text_of_held(price: Price, items: &[u8], version: &[u8], store: &[u8], text: &mut Text<'_>)
     requires { Fits items.now version.now text.old }
-    ensures { Written 0 (program_text price items.now version.now store.now) text.old result text.new }
+    ensures { Wrote text.old (program_text price items.now version.now store.now) text.new }
 {
+    // By a call, so that a proof can name what the areas hold: tried as `[0; 65536]`, it did not prove.
     let mut choice = io::large_buffer();
-    let mut list_area = io::large_buffer();
-    let mut block_area = io::large_buffer();
-    text_of(
+    let mut list = io::large_buffer();
+    let mut block = io::large_buffer();
+    let passed = call_pass::pass(
         price,
         items,
         version,
         store,
         &mut choice,
-        &mut list_area,
-        &mut block_area,
-        text,
-    )
+        &mut list,
+        &mut block,
+    );
+    let y = match passed {
+        Err(r) => return report::refusal(text, r),
+        Ok(y) => y,
+    };
+    let answer = call_partition::partition(
+        price,
+        items,
+        version,
+        store,
+        &mut choice,
+        &mut list,
+        &mut block,
+    );
+    match answer {
+        Err(r) => report::refusal(text, r),
+        Ok(x) => {
+            let n = 12 * x.entries as usize;
+            report::report(text, &list[..n], x, y);
+        }
+    }
 }

@@ -1,5 +1,6 @@
 -- What a list that passes the checks of check_loose and tidy has, and that a written list which has it passes them.
 -- Assumes nothing.
+use Rattle.std.specs.Prelude.{Ok}
 use Prim.Native.Nat.{ℕ, ◌≤◌}
 use native.Mathlib.Omega.{arith}
 use mathlib.Core.Path.{◌≡◌, sym, ap}
@@ -9,11 +10,8 @@ use lib.ListN.{length}
 use borrow.Author.Tests.{le-leb, leb-true}
 use Rattle.format.specs.declared.Fault.TheVariants.{TooLong, ListLength, AreaTooShort}
 use Rattle.format.specs.declared.Record.{Record}
-use Rattle.format.specs.declared.Answer.{Answer}
-use Rattle.format.specs.declared.Ruling.{Ruling}
-use Rattle.format.specs.declared.Ruling.TheVariants.{Fine}
+use Rattle.format.specs.Refusal.{Answer, Ruling, need, ◌then◌}
 use Rattle.format.specs.Limits.{store_most, version_most}
-use Rattle.format.specs.Refusal.{need, ◌then◌}
 use Rattle.format.specs.Record.{list_fits, rows_of, records_of, encode}
 use Rattle.format.specs.Meaning.{whole}
 use Rattle.format.specs.WellFormed.{Sized, Inside}
@@ -31,7 +29,7 @@ use Rattle.loose.specs.Loose.{loose_ruling, tidy_ruling, tidy_form, tidy_answer,
 -- check_loose makes tidy's checks in any room for the list
 pub loose_in_room : (list st : List ℕ) (room : ℕ) → length list ≤ room → loose_ruling list st ≡ tidy_ruling list st room
 loose_in_room list st room h =
-    let nine : need (leb (length list) room) AreaTooShort 0 ≡ Fine = rw (le-leb (length list) room h) in
+    let nine : need (leb (length list) room) AreaTooShort 0 ≡ Ok tt = rw (le-leb (length list) room h) in
     ap (λ (q : Ruling). need (leb (length st) store_most) TooLong 0 then need (list_fits list) ListLength 0 then q then walk_ruling (checks scope.Loose [] st) list) (sym nine)
 
 pub loose_is_tidy : (list st : List ℕ) → loose_ruling list st ≡ tidy_ruling list st (length list)
@@ -53,7 +51,7 @@ pub record Accepts (list st : List ℕ) (room : ℕ) : Type 0 where
   pub in_room : length list ≤ room
   pub sound : Sound (records_of list) st
 
-pub accepts_of_fine : (list st : List ℕ) (room : ℕ) → tidy_ruling list st room ≡ Fine → Accepts list st room
+pub accepts_of_fine : (list st : List ℕ) (room : ℕ) → tidy_ruling list st room ≡ Ok tt → Accepts list st room
 accepts_of_fine list st room e =
     let walked : Ruling = walk_ruling (checks scope.Loose [] st) list in
     let nine : Ruling = need (leb (length list) room) AreaTooShort 0 in
@@ -74,7 +72,7 @@ accepts_of_fine list st room e =
     }
 
 -- what is written and sound is accepted
-pub fine_of_sound : (l : List Record) (st : List ℕ) (room : ℕ) → length l ≤ 4096 → length (encode l) ≤ room → Sound l st → tidy_ruling (encode l) st room ≡ Fine
+pub fine_of_sound : (l : List Record) (st : List ℕ) (room : ℕ) → length l ≤ 4096 → length (encode l) ≤ room → Sound l st → tidy_ruling (encode l) st room ≡ Ok tt
 fine_of_sound l st room n k s =
     rw (le-leb (length st) store_most s.store_at_most, fits_encode l n, le-leb (length (encode l)) room k, walk_loose st l s.sized s.inside s.whole_most)
 

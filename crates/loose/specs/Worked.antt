@@ -1,13 +1,11 @@
 -- Worked examples of check_loose and tidy, as one table (clause 10.10): the list, and tidy's area before the call; then what check_loose answers, what
 -- tidy answers, and the area after it. The store of all is 65 66 65 66 67.
 -- Assumes nothing.
-use Rattle.std.specs.Prelude.{ℕ, ◌≡◌, List, [], ◌∷◌, ◌++◌, map, length, replicate}
+use Rattle.std.specs.Prelude.{ℕ, ◌≡◌, List, [], ◌∷◌, ◌++◌, map, length, replicate, Ok, Err}
 use Rattle.format.specs.declared.Fault.TheVariants as fault
 use Rattle.format.specs.declared.Record.{Record}
 use Rattle.format.specs.declared.Record.TheVariants.{New, Match}
-use Rattle.format.specs.declared.Answer.{Answer}
-use Rattle.format.specs.declared.Answer.TheVariants.{Accepted, Refused}
-use Rattle.format.specs.Refusal.{refuse, length_only, entries_only}
+use Rattle.format.specs.Refusal.{Answer, refuse, length_only, entries_only}
 use Rattle.format.specs.Record.{free_at, held_at, encode}
 use Rattle.loose.specs.Loose.{loose_checked, tidy_answer, tidy_area}
 
@@ -25,7 +23,7 @@ blank n = replicate n 7
 -- a list that both calls accept, in an area of so many bytes; its tidy form, and how many bytes of the area stay
 abbrev pub becomes : List Record → ℕ → List Record → ℕ → Worked
 becomes l room t stay =
-    record { list = encode l; before = blank room; loose = Accepted (length_only 0); told = Accepted (entries_only (length t)); after = encode t ++ blank stay }
+    record { list = encode l; before = blank room; loose = Ok (length_only 0); told = Ok (entries_only (length t)); after = encode t ++ blank stay }
 
 -- a list that tidy refuses, in an area of so many bytes, which stay; and what check_loose says of it
 abbrev pub refused : List ℕ → ℕ → Answer → Answer → Worked
@@ -36,7 +34,7 @@ abbrev pub both : List ℕ → ℕ → Answer → Worked
 both list room told = refused list room told told
 
 abbrev pub short : Answer
-short = Refused (refuse fault.AreaTooShort 0)
+short = Err (refuse fault.AreaTooShort 0)
 
 abbrev pub m : ℕ → ℕ → Record
 m s a = Match s (free_at a)
@@ -60,13 +58,13 @@ table =
     ∷ becomes (New 1 ∷ m 1 0 ∷ m 1 1 ∷ New 1 ∷ New 1 ∷ []) 60 (New 1 ∷ m 2 0 ∷ New 2 ∷ []) 24
     ∷ becomes (New 1 ∷ New 1 ∷ []) 25 (New 2 ∷ []) 13
     -- refused, and nothing is written: 9 by the length of the list handed in, before the records; 4, 6 and 7 at theirs; 3 before 9
-    ∷ refused (encode (New 1 ∷ New 1 ∷ [])) 23 (Accepted (length_only 0)) short
-    ∷ both (encode (New 1 ∷ New 0 ∷ [])) 24 (Refused (refuse fault.Malformed 1))
-    ∷ refused (encode (New 1 ∷ New 0 ∷ [])) 23 (Refused (refuse fault.Malformed 1)) short
-    ∷ both (encode (New 1 ∷ New 16777216 ∷ [])) 24 (Refused (refuse fault.Sizes 1))
-    ∷ both (encode (New 1 ∷ New 1 ∷ m 2 4 ∷ [])) 36 (Refused (refuse fault.OutsideStore 2))
-    ∷ both (blank 13) 13 (Refused (refuse fault.ListLength 0))
-    ∷ both (blank 13) 12 (Refused (refuse fault.ListLength 0))
+    ∷ refused (encode (New 1 ∷ New 1 ∷ [])) 23 (Ok (length_only 0)) short
+    ∷ both (encode (New 1 ∷ New 0 ∷ [])) 24 (Err (refuse fault.Malformed 1))
+    ∷ refused (encode (New 1 ∷ New 0 ∷ [])) 23 (Err (refuse fault.Malformed 1)) short
+    ∷ both (encode (New 1 ∷ New 16777216 ∷ [])) 24 (Err (refuse fault.Sizes 1))
+    ∷ both (encode (New 1 ∷ New 1 ∷ m 2 4 ∷ [])) 36 (Err (refuse fault.OutsideStore 2))
+    ∷ both (blank 13) 13 (Err (refuse fault.ListLength 0))
+    ∷ both (blank 13) 12 (Err (refuse fault.ListLength 0))
     ∷ []
 
 -- an example as the definitions have it

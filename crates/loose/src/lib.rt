@@ -8,24 +8,18 @@ ghost use Rattle.format.specs.Record.{records_of};
 ghost use Rattle.walk.specs.Walked.{walked};
 ghost use Rattle.loose.specs.Loose.{loose_checked, tidy_ruling, tidy_answer, tidy_area, Ready, Written};
 
-use format::{Answer, Fault};
-use join::Open;
+use emit::Emitter;
+use format::{Answer, Fault, need};
 use walk::{Scope, Walked};
 
 // Checks 2, 3 and 9, then record by record 4, 6 and 7, of a loose list with so much room for its tidy form.
 fn accept(list: &[u8], store: &[u8], room: usize) -> Walked
     ensures { result ≡ walked (tidy_ruling list.now store.now room) (records_of list.now) }
 {
-    if format::STORE_MOST < store.len() {
-        return walk::stopped(Fault::TooLong, 0);
-    }
-    if !checks::list_fits(list) {
-        return walk::stopped(Fault::ListLength, 0);
-    }
-    if room < list.len() {
-        return walk::stopped(Fault::AreaTooShort, 0);
-    }
-    walk::walk(list, &list[0..0], store, Scope::Loose)
+    need(store.len() <= format::STORE_MOST, Fault::TooLong)?;
+    need(checks::list_fits(list), Fault::ListLength)?;
+    need(list.len() <= room, Fault::AreaTooShort)?;
+    walk::walk(list, &[], store, Scope::Loose)
 }
 
 // Check_loose: accepted where list and store have no fault, but that new records may stand side by side.
@@ -33,8 +27,8 @@ pub fn check_loose(list: &[u8], store: &[u8]) -> Answer
     ensures answered { result ≡ loose_checked list.now store.now }
 {
     let w = accept(list, store, list.len());
-    let Walked::Through(_totals) = w else {
-        return Answer::Refused(walk::refusal_of(w));
+    let Ok(_totals) = w else {
+        return Err(w.unwrap_err());
     };
     format::length_only(0)
 }
@@ -44,18 +38,11 @@ fn write_tidy(list: &[u8], area: &mut [u8]) -> usize
     requires { Ready list.now area.old }
     ensures { Written list.now area.old area.new result }
 {
-    let n = list.len() / 12;
-    let mut out = 0;
-    let mut last = Open::No;
-    let mut i = 0;
-    while i < n {
-        let record = format::record_at(list, i);
-        let e = emit::emit(area, out, last, record);
-        out = e.out;
-        last = e.last;
-        i += 1;
+    let mut written = Emitter::new(area);
+    for i in 0..list.len() / 12 {
+        written.emit(format::record_at(list, i));
     }
-    emit::flush(area, out, last)
+    written.flush()
 }
 
 // Tidy: the tidy form of a loose list over the front of its area, and the number of its records; nothing is written where it refuses.
@@ -64,8 +51,8 @@ pub fn tidy(list: &[u8], store: &[u8], list_area: &mut [u8]) -> Answer
     ensures list_after { list_area.new ≡ tidy_area list.now store.now list_area.old }
 {
     let w = accept(list, store, list_area.len());
-    let Walked::Through(_totals) = w else {
-        return Answer::Refused(walk::refusal_of(w));
+    let Ok(_totals) = w else {
+        return Err(w.unwrap_err());
     };
     let bytes = write_tidy(list, list_area);
     format::entries_only((bytes / 12) as u32)

@@ -8,9 +8,11 @@ use mathlib.Core.Bool.{Bool, true, false, cond}
 use mathlib.Core.List.{List, [], ◌∷◌}
 use lib.Dec.{ltb}
 use lib.ListN.{length, set, length-set}
+use Rattle.std.proofs.Math.Nat.{ne_of_lt}
 use borrow.Author.Tests.{ltb-true, ltb-false}
 use Rattle.price.specs.declared.Rates.{Rates}
 use Rattle.rules.specs.declared.Cell.{Cell}
+use Rattle.rules.specs.declared.Kind.{Kind}
 use Rattle.rules.specs.declared.Merge.TheVariants.{Both, Before, After, Pair}
 use Rattle.rules.specs.declared.Outcome.{Outcome}
 use Rattle.rules.specs.declared.Outcome.TheVariants.{Advance, Merged}
@@ -21,11 +23,11 @@ use Rattle.machine.specs.declared.Sight.{Sight}
 use Rattle.machine.specs.declared.Move.{Move}
 use Rattle.machine.specs.Looks.{bytes, first, rest, after, step_back, merge_in, ended}
 use Rattle.machine.specs.Machine.{item_at, item_in, below, from_place, left_of, after_of, state_of, Sighted, new_cell, gone_on, fused_back, fused_ahead, move_of, moved, reach, Reaches, Ready, Looked}
-use Rattle.machine.proofs.Gap.{state_alike, cons_of, ne_of_lt, at_other, at_same, below_next, below_set, below_put, from_place_next, from_place_none, from_place_set, from_place_put, rear_set}
+use Rattle.machine.proofs.Gap.{state_alike, cons_of, at_other, at_same, below_next, below_set, below_put, from_place_next, from_place_none, from_place_set, from_place_put, rear_set}
 
 -- ---- the first items around a place
 
-module _ (ks ss : List ℕ) where
+module _ (ks : List Kind) (ss : List ℕ) where
   pub first_below : (i : ℕ) → 0 < i → item_at ks ss (i - 1) ≡ first (below ks ss i)
   first_below i h = sym (ap first (below_next ks ss i h))
 
@@ -64,7 +66,7 @@ module _ (ks ss : List ℕ) where
 
 module _ (m : Machine) (hk : length m.kinds ≡ 4098) (hs : length m.sizes ≡ 4098) (v : Move) (reached : m.right < 4097) where
   -- the arrays after the store at p's place
-  abbrev ks : List ℕ
+  abbrev ks : List Kind
   ks = set m.kinds m.right v.stays.kind
 
   abbrev ss : List ℕ
@@ -98,14 +100,14 @@ module _ (m : Machine) (hk : length m.kinds ≡ 4098) (hs : length m.sizes ≡ 4
         let j = m.right in
         from_place_next (moved m v).kinds (moved m v).sizes j (omega arith)
         ∙ cons_of
-        (at_other ks ss v.at v.made.kind v.made.size j (ne_of_lt j v.at (omega arith)) ∙ at_same m.kinds m.sizes j v.stays.kind v.stays.size (omega arith) (omega arith))
+        (at_other ks ss v.at v.made.kind v.made.size j (ne_of_lt (omega arith)) ∙ at_same m.kinds m.sizes j v.stays.kind v.stays.size (omega arith) (omega arith))
         (ap (from_place (moved m v).kinds (moved m v).sizes) (sym e)
         ∙ from_place_put ks ss v.at v.made.kind v.made.size (simp length-set (omega arith)) (simp length-set (omega arith)) (omega arith)
         ∙ cons_of refl
         (from_place_set m.kinds m.sizes j v.stays.kind v.stays.size (v.at + 1) (omega arith)
         ∙ sym (ap rest (ap (from_place m.kinds m.sizes) (sym e)) ∙ rest_from m.kinds m.sizes v.at)))
 
-module _ (m : Machine) (hk : length m.kinds ≡ 4098) (hs : length m.sizes ≡ 4098) (s : Sight) (w : Sighted m.kinds m.sizes m.left m.right s) where
+module _ (m : Machine) (hk : length m.kinds ≡ 4098) (hs : length m.sizes ≡ 4098) (s : Sight) (w : Sighted m s) where
   -- the one before p becomes a new record of n bytes, and p goes k on
   back : (n k : ℕ) → 0 < m.left → m.left ≤ m.right → 0 < k → m.right + k ≤ 4097
       → state_of (moved m (fused_back m.left m.right s.p (new_cell n) k)) ≡ record { left = new n ∷ rest (left_of m); right = from_place m.kinds m.sizes (m.right + k) }
@@ -180,7 +182,7 @@ first_most : (l : List Item) → size (first l) ≤ bytes l
 first_most [] = omega arith
 first_most (x ∷ l) = omega arith
 
-module _ (rates : Rates) (m : Machine) (h : Ready rates m) (s : Sight) (w : Sighted m.kinds m.sizes m.left m.right s) where
+module _ (rates : Rates) (m : Machine) (h : Ready rates m) (s : Sight) (w : Sighted m s) where
   pub sizes_fit : s.before.size + s.p.size + s.after.size ≤ 16777216
   sizes_fit =
       let a = ap size w.before_is in

@@ -3,14 +3,16 @@
 use Prim.Native.Nat.{ℕ, zero, suc, ◌+◌, ◌-◌, ◌≤◌, ◌<◌}
 use native.Mathlib.Omega.{arith}
 use native.Mathlib.Numerals.{add-one}
-use native.Mathlib.Nat.{lt_irrefl}
-use mathlib.Core.Path.{◌≡◌, refl, sym, ap, ap₂, subst, ◌∙◌}
+use Rattle.std.proofs.Math.Nat.{ne_of_lt, ne_of_gt}
+use mathlib.Core.Path.{◌≡◌, refl, sym, ap, ap₂, ◌∙◌}
 use mathlib.Core.Logic.{◌≢◌}
 use mathlib.Core.List.{List, [], ◌∷◌}
 use lib.ListN.{length, set}
 use lib.Seq.{get_or-set_same, get_or-set_other}
 use Rattle.format.specs.Record.{from}
 use Rattle.format.proofs.Rows.{from_next, from_none}
+use Rattle.rules.specs.declared.Kind.{Kind}
+use Rattle.rules.specs.declared.Kind.TheVariants.{New}
 use Rattle.rules.specs.Rules.{Item, item_of}
 use Rattle.machine.specs.Looks.{State, rest, joined}
 use Rattle.machine.specs.Machine.{item_at, below, from_place}
@@ -21,13 +23,7 @@ state_alike p q = λ i. record { left = p i; right = q i }
 pub cons_of : {x x' : Item} {l l' : List Item} → x ≡ x' → l ≡ l' → x ∷ l ≡ x' ∷ l'
 cons_of p q = λ i. p i ∷ q i
 
-pub ne_of_lt : (i k : ℕ) → i < k → i ≢ k
-ne_of_lt i k h e = lt_irrefl k (subst (λ (n : ℕ). n < k) e h)
-
-ne_of_gt : (i k : ℕ) → k < i → i ≢ k
-ne_of_gt i k h e = lt_irrefl k (subst (λ (n : ℕ). k < n) e h)
-
-module _ (ks ss : List ℕ) where
+module _ (ks : List Kind) (ss : List ℕ) where
   -- ---- opened
 
   pub below_next : (i : ℕ) → 0 < i → below ks ss i ≡ item_at ks ss (i - 1) ∷ below ks ss (i - 1)
@@ -61,27 +57,27 @@ module _ (ks ss : List ℕ) where
 
   -- ---- after stores of v and w at k
 
-  module _ (k v w : ℕ) where
+  module _ (k : ℕ) (v : Kind) (w : ℕ) where
     pub at_other : (j : ℕ) → j ≢ k → item_at (set ks k v) (set ss k w) j ≡ item_at ks ss j
-    at_other j h = ap₂ item_of (get_or-set_other ks k j v 0 h) (get_or-set_other ss k j w 0 h)
+    at_other j h = ap₂ item_of (get_or-set_other ks k j v New h) (get_or-set_other ss k j w 0 h)
 
     pub below_set : (i : ℕ) → i ≤ k → below (set ks k v) (set ss k w) i ≡ below ks ss i
     below_set zero h = refl
-    below_set (suc i) h = cons_of (at_other i (ne_of_lt i k (omega arith))) (below_set i (omega arith))
+    below_set (suc i) h = cons_of (at_other i (ne_of_lt (omega arith))) (below_set i (omega arith))
 
     from_set : (j n : ℕ) → k < j → from (item_at (set ks k v) (set ss k w)) j n ≡ from (item_at ks ss) j n
     from_set j zero h = refl
-    from_set j (suc n) h = cons_of (at_other j (ne_of_gt j k h)) (from_set (j + 1) n (omega arith))
+    from_set j (suc n) h = cons_of (at_other j (ne_of_gt h)) (from_set (j + 1) n (omega arith))
 
     pub from_place_set : (j : ℕ) → k < j → from_place (set ks k v) (set ss k w) j ≡ from_place ks ss j
     from_place_set j h = from_set j (4097 - j) h
 
     pub rear_set : k < 4097 → item_at (set ks k v) (set ss k w) 4097 ≡ item_at ks ss 4097
-    rear_set h = at_other 4097 (ne_of_gt 4097 k h)
+    rear_set h = at_other 4097 (ne_of_gt h)
 
     module _ (hk : k < length ks) (hs : k < length ss) where
       pub at_same : item_at (set ks k v) (set ss k w) k ≡ item_of v w
-      at_same = ap₂ item_of (get_or-set_same ks k v 0 hk) (get_or-set_same ss k w 0 hs)
+      at_same = ap₂ item_of (get_or-set_same ks k v New hk) (get_or-set_same ss k w 0 hs)
 
       -- stored at the end of what comes before
       pub below_put : below (set ks k v) (set ss k w) (k + 1) ≡ item_of v w ∷ below ks ss k

@@ -2,20 +2,18 @@
 -- Assumes nothing.
 use Prim.Native.Nat.{ℕ, ◌+◌, ◌-◌, ◌*◌, ◌≤◌, ◌<◌}
 use native.Mathlib.Omega.{arith}
-use mathlib.Core.Path.{◌≡◌, refl, sym, ap, subst, ◌∙◌}
-use mathlib.Core.Bool.{false}
+use mathlib.Core.Path.{◌≡◌, sym, ap, subst, ◌∙◌}
 use mathlib.Core.List.{List, [], ◌∷◌}
 use lib.ListN.{length, length-set}
 use Rattle.format.specs.Limits.{version_most}
 use Rattle.format.proofs.Rows.{length_from}
 use Rattle.price.specs.declared.Rates.{Rates}
-use Rattle.price.specs.Price.{RatesFit}
-use Rattle.rules.specs.Rules.{Item, new, match, neither, mark, is_match, tests_of}
+use Rattle.rules.specs.Rules.{Item, mark, tests_of}
 use Rattle.machine.specs.declared.Machine.{Machine}
 use Rattle.machine.specs.declared.Step.{Step}
 use Rattle.machine.specs.declared.Passed.{Passed}
 use Rattle.machine.specs.Looks.{bytes, State, Look, look_at, Run, stopped, preceded, run, pass}
-use Rattle.machine.specs.Machine.{item_at, item_in, left_of, right_of, after_of, Ready, left_by, Looked, Runnable, Ran}
+use Rattle.machine.specs.Machine.{item_at, item_in, left_of, right_of, after_of, left_by, Looked, Runnable, Ran}
 use Rattle.machine.proofs.Fusing.{Some, Starts, bytes_joined}
 use Rattle.machine.proofs.Looks.{seen, look_turns}
 use Rattle.machine.proofs.Running.{few_of_pass, Onward, onward, run_look, run_rear}
@@ -34,11 +32,6 @@ pub record Round (rates : Rates) (xs : List Item) (m : Machine) (looks : ℕ) : 
   pub going : m.right < 4097 → Onward (tests_of rates) (price_of rates) (merges_pay rates) (2 * length xs - looks) (left_of m) (right_of m)
   pub end_same : (pass (tests_of rates) xs).end ≡ (run (tests_of rates) (2 * length xs - looks) (left_of m) (right_of m)).end
   pub looks_same : length (pass (tests_of rates) xs).outcomes ≡ looks + length (run (tests_of rates) (2 * length xs - looks) (left_of m) (right_of m)).outcomes
-
-front_no_match : (x : Item) (l : List Item) → Starts (x ∷ l) → is_match x ≡ false
-front_no_match (new s) l h = absurd h
-front_no_match (match s) l h = absurd h
-front_no_match (neither s) l h = refl
 
 module _ {rates : Rates} where
   pub round_start : {m : Machine} → Runnable rates m → length m.kinds ≡ 4098 → length m.sizes ≡ 4098 → Round rates (right_of m) m 0
@@ -73,17 +66,6 @@ module _ {rates : Rates} where
 
       pub looks_left : looks < 2 * length xs
       looks_left = let some = (onward (tests_of rates) (price_of rates) (merges_pay rates) (2 * length xs - looks) (left_of m) (item_in m m.right) (after_of m) on).0 in omega (arith, some)
-
-      pub ready_of_round : RatesFit rates → Ready rates m
-      ready_of_round p =
-          record {
-            rates_fit = p;
-            gap = h.gap;
-            not_rear = g;
-            rear = h.rear;
-            front = λ z. front_no_match (item_in m m.right) (after_of m) (rw z at on.starts);
-            fits = h.fits;
-          }
 
       pub round_next : {s : Step} → Looked rates m s → Round rates xs (left_by s) (looks + s.looks)
       round_next {s} v =

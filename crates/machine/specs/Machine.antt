@@ -7,6 +7,8 @@ use Rattle.format.specs.Record.{from}
 use Rattle.price.specs.declared.Rates.{Rates}
 use Rattle.price.specs.Price.{RatesFit}
 use Rattle.rules.specs.declared.Cell.{Cell}
+use Rattle.rules.specs.declared.Kind.{Kind}
+use Rattle.rules.specs.declared.Kind.TheVariants.{New}
 use Rattle.rules.specs.declared.Merge.TheVariants.{Both, Before, After, Pair}
 use Rattle.rules.specs.declared.Outcome.{Outcome}
 use Rattle.rules.specs.declared.Outcome.TheVariants.{Advance, Merged}
@@ -23,30 +25,33 @@ abbrev pub rear_at : ℕ
 rear_at = 4097
 
 -- the cell and the item at a place of two arrays
-abbrev pub cell_at : List ℕ → List ℕ → ℕ → Cell
-cell_at ks ss i = record { kind = get_or ks i 0; size = get_or ss i 0 }
+abbrev pub cell_at : List Kind → List ℕ → ℕ → Cell
+cell_at ks ss i = record { kind = get_or ks i New; size = get_or ss i 0 }
 
-abbrev pub item_at : List ℕ → List ℕ → ℕ → Item
+abbrev pub item_at : List Kind → List ℕ → ℕ → Item
 item_at ks ss i = cell_item (cell_at ks ss i)
 
 -- the items at the places below i, from the nearest on
-abbrev pub below : List ℕ → List ℕ → ℕ → List Item
+abbrev pub below : List Kind → List ℕ → ℕ → List Item
 below ks ss zero = []
 below ks ss (suc i) = item_at ks ss i ∷ below ks ss i
 
 -- the items from place i on, without the rear mark
-abbrev pub from_place : List ℕ → List ℕ → ℕ → List Item
+abbrev pub from_place : List Kind → List ℕ → ℕ → List Item
 from_place ks ss i = from (item_at ks ss) i (rear_at - i)
 
--- what a machine holds: what comes before p, p and what comes after it, the item at a place, and the state
+-- what a machine holds: the cell and the item at a place, what comes before p, p and what comes after it, and the state
+abbrev pub cell_in : Machine → ℕ → Cell
+cell_in m i = cell_at m.kinds m.sizes i
+
+abbrev pub item_in : Machine → ℕ → Item
+item_in m i = item_at m.kinds m.sizes i
+
 abbrev pub left_of : Machine → List Item
 left_of m = below m.kinds m.sizes m.left
 
 abbrev pub right_of : Machine → List Item
 right_of m = from_place m.kinds m.sizes m.right
-
-abbrev pub item_in : Machine → ℕ → Item
-item_in m i = item_at m.kinds m.sizes i
 
 abbrev pub state_of : Machine → State
 state_of m = record { left = left_of m; right = right_of m }
@@ -55,12 +60,12 @@ state_of m = record { left = left_of m; right = right_of m }
 abbrev pub after_of : Machine → List Item
 after_of m = from_place m.kinds m.sizes (m.right + 1)
 
--- what a look sees from a cursor: the items around it, a mark where there is none
-pub record Sighted (ks ss : List ℕ) (left right : ℕ) (s : Sight) : Type 0 where
-  pub before_is : cell_item s.before ≡ first (below ks ss left)
-  pub p_is : cell_item s.p ≡ item_at ks ss right
-  pub after_is : cell_item s.after ≡ first (from_place ks ss (right + 1))
-  pub second_is : cell_item s.second ≡ first (rest (from_place ks ss (right + 1)))
+-- what a look sees of a machine: the items around p, a mark where there is none
+pub record Sighted (m : Machine) (s : Sight) : Type 0 where
+  pub before_is : cell_item s.before ≡ first (left_of m)
+  pub p_is : cell_item s.p ≡ item_in m m.right
+  pub after_is : cell_item s.after ≡ first (after_of m)
+  pub second_is : cell_item s.second ≡ first (rest (after_of m))
 
 -- the three moves, from a cursor l and r with the cells b before p and p: p goes to the one after; the one before p becomes c, and p goes n on; p
 -- and the one after it become c, and p goes to the one before
@@ -75,7 +80,7 @@ fused_ahead l r b c = record { left = l - 1; right = r; at = r + 1; made = c; st
 
 -- a new record of s bytes
 abbrev pub new_cell : ℕ → Cell
-new_cell s = record { kind = 0; size = s }
+new_cell s = record { kind = New; size = s }
 
 -- the move of an outcome
 abbrev pub move_of : ℕ → ℕ → Cell → Cell → Outcome → Move
@@ -85,15 +90,13 @@ move_of l r b p (Merged (Before s)) = fused_back l r p (new_cell s) 1
 move_of l r b p (Merged (After s)) = fused_ahead l r b (new_cell s)
 move_of l r b p (Merged (Pair s)) = fused_ahead l r b (new_cell s)
 
+-- a machine with another cell at a place
+abbrev pub stored : Machine → ℕ → Cell → Machine
+stored m i c = record m { kinds = set m.kinds i c.kind; sizes = set m.sizes i c.size }
+
 -- a machine with a move carried out
 abbrev pub moved : Machine → Move → Machine
-moved m v =
-    record {
-      kinds = set (set m.kinds m.right v.stays.kind) v.at v.made.kind;
-      sizes = set (set m.sizes m.right v.stays.size) v.at v.made.size;
-      left = v.left;
-      right = v.right;
-    }
+moved m v = record (stored (stored m m.right v.stays) v.at v.made) { left = v.left; right = v.right }
 
 -- the items from p on that an outcome takes up
 abbrev pub reach : Outcome → ℕ

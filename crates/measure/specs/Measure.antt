@@ -3,10 +3,8 @@
 use Rattle.std.specs.Prelude.{ℕ, List, [], length}
 use Rattle.format.specs.declared.Fault.TheVariants as fault
 use Rattle.format.specs.declared.Record.{Record}
-use Rattle.format.specs.declared.Ruling.{Ruling}
+use Rattle.format.specs.Refusal.{Ruling, Answer, need, ◌then◌, answer}
 use Rattle.format.specs.declared.Figures.{Figures}
-use Rattle.format.specs.declared.Answer.{Answer}
-use Rattle.format.specs.Refusal.{need, ◌then◌, answer}
 use Rattle.format.specs.Record.{list_fits, records_of}
 use Rattle.format.specs.Meaning.{whole, stored}
 use Rattle.walk.specs.declared.Scope.TheVariants as scope

@@ -2,16 +2,23 @@
 // on sheet C (clause 10.1 of docs/SPECIFICATION.md).
 #![tactic(auto)]
 
-fn main(rt: HostRuntime) -> std::io::Result<()> {
-    let mut price = io::large_buffer();
-    let mut items = io::large_buffer();
-    let mut version = io::large_buffer();
-    let mut store = io::large_buffer();
-    let mut text = console::text_area();
-    let p = console::read_file(&rt, b"price", &mut price);
-    let l = console::read_file(&rt, b"items", &mut items);
-    let v = console::read_file(&rt, b"version", &mut version);
-    let s = console::read_file(&rt, b"store", &mut store);
-    let n = program::text_of_run(&price, &items, &version, &store, p, l, v, s, &mut text);
-    console::write(&mut rt.stdout(), &text, n)
+use report::Text;
+use std::io::{self, Write};
+
+fn main(rt: HostRuntime) -> io::Result<()> {
+    let mut price = [0; 65536];
+    let mut items = [0; 65536];
+    let mut version = [0; 65536];
+    let mut store = [0; 65536];
+    // Room for the text of any list in a file of 65,536 bytes.
+    let mut area = [0; 262144];
+    let mut text = Text::new(&mut area);
+    program::text_of_run(
+        console::read_file(&rt, b"price", &mut price),
+        console::read_file(&rt, b"items", &mut items),
+        console::read_file(&rt, b"version", &mut version),
+        console::read_file(&rt, b"store", &mut store),
+        &mut text,
+    );
+    rt.stdout().write_all(text.bytes())
 }

@@ -1,5 +1,6 @@
 -- What the lists of a call of pool have that pass its checks; and the checks that come after them, 13 and 9.
 -- Assumes nothing.
+use Rattle.std.specs.Prelude.{Ok, Err}
 use Prim.Native.Nat.{ℕ, ◌≤◌, ◌<◌}
 use native.Mathlib.Omega.{arith}
 use mathlib.Core.Path.{◌≡◌, sym, ◌∙◌}
@@ -9,10 +10,8 @@ use lib.Dec.{eqb, leb}
 use lib.ListN.{length}
 use borrow.Author.Tests.{le-leb, lt-leb, leb-true, eqb-true}
 use Rattle.format.specs.declared.Fault.TheVariants.{TooLong, ListLength, Sizes, AreaTooShort, TooManyRecords}
-use Rattle.format.specs.declared.Ruling.{Ruling}
-use Rattle.format.specs.declared.Ruling.TheVariants.{Fine, Stop}
+use Rattle.format.specs.Refusal.{Ruling, need, refuse, ◌then◌}
 use Rattle.format.specs.Limits.{records_most}
-use Rattle.format.specs.Refusal.{need, refuse, ◌then◌}
 use Rattle.format.specs.Record.{list_fits, rows_of, records_of, encode}
 use Rattle.format.specs.Meaning.{whole}
 use Rattle.format.specs.WellFormed.{Sized, Agrees}
@@ -33,13 +32,13 @@ use Rattle.pool.specs.Pooling.{Alongside}
 
 pub record Listed (list v st : List ℕ) : Type 0 where
   pub list_in_limits : list_fits list ≡ true
-  pub walk_fine : walk_ruling (checks scope.LooseVersion v st) list ≡ Fine
+  pub walk_fine : walk_ruling (checks scope.LooseVersion v st) list ≡ Ok tt
   pub counted : Counted list
   pub sized : Sized (records_of list)
   pub whole_is : whole (records_of list) ≡ length v
   pub agrees : Agrees st (records_of list) v
 
-pub listed_of_fine : (list v st : List ℕ) → list_ruling list v st ≡ Fine → Listed list v st
+pub listed_of_fine : (list v st : List ℕ) → list_ruling list v st ≡ Ok tt → Listed list v st
 listed_of_fine list v st h =
     let short = need (eqb (whole (records_of list)) (length v)) Sizes (length (records_of list)) in
     let a = fine_of_then (need (list_fits list) ListLength 0) (cover_ruling scope.LooseVersion list v st) h in
@@ -61,8 +60,8 @@ listed_of_fine list v st h =
 -- version and store are short enough, and neither list is at fault
 pub record BothFine (first second v st : List ℕ) : Type 0 where
   pub lengths_in_limits : lengths_fit v st ≡ true
-  pub first_fine : list_ruling first v st ≡ Fine
-  pub second_fine : list_ruling second v st ≡ Fine
+  pub first_fine : list_ruling first v st ≡ Ok tt
+  pub second_fine : list_ruling second v st ≡ Ok tt
 
 module _ {first second v st : List ℕ} (h : BothFine first second v st) where
   pub first_listed : Listed first v st
@@ -80,14 +79,14 @@ module _ {first second v st : List ℕ} (h : BothFine first second v st) where
   alongside = record { first_checked = checked first_listed; second_checked = checked second_listed; same_whole = first_listed.whole_is ∙ sym second_listed.whole_is }
 
   module _ (room : ℕ) where
-    pub too_many : records_most < length (pooled_list first second) → pool_ruling first second v st room ≡ Stop (refuse TooManyRecords 0)
+    pub too_many : records_most < length (pooled_list first second) → pool_ruling first second v st room ≡ Err (refuse TooManyRecords 0)
     too_many n = rw (h.lengths_in_limits, h.first_fine, h.second_fine, lt-leb _ _ n)
 
     module _ (few : length (pooled_list first second) ≤ records_most) where
-      pub too_short : room < length (encode (pooled_list first second)) → pool_ruling first second v st room ≡ Stop (refuse AreaTooShort 0)
+      pub too_short : room < length (encode (pooled_list first second)) → pool_ruling first second v st room ≡ Err (refuse AreaTooShort 0)
       too_short n = rw (h.lengths_in_limits, h.first_fine, h.second_fine, le-leb _ _ few, lt-leb _ _ n)
 
-      pub fine_in_room : length (encode (pooled_list first second)) ≤ room → pool_ruling first second v st room ≡ Fine
+      pub fine_in_room : length (encode (pooled_list first second)) ≤ room → pool_ruling first second v st room ≡ Ok tt
       fine_in_room n = rw (h.lengths_in_limits, h.first_fine, h.second_fine, le-leb _ _ few, le-leb _ _ n)
 
 -- ---- all checks
@@ -97,7 +96,7 @@ pub record Accepts (first second v st : List ℕ) (room : ℕ) : Type 0 where
   pub few : length (pooled_list first second) ≤ records_most
   pub in_room : length (encode (pooled_list first second)) ≤ room
 
-pub accepts_of_fine : (first second v st : List ℕ) (room : ℕ) → pool_ruling first second v st room ≡ Fine → Accepts first second v st room
+pub accepts_of_fine : (first second v st : List ℕ) (room : ℕ) → pool_ruling first second v st room ≡ Ok tt → Accepts first second v st room
 accepts_of_fine first second v st room h =
     let l = pooled_list first second in
     let nine : Ruling = need (leb (length (encode l)) room) AreaTooShort 0 in

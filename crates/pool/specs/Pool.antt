@@ -3,10 +3,8 @@
 use Rattle.std.specs.Prelude.{ℕ, ◌≡◌, List, [], ◌∷◌, leb, length}
 use Rattle.format.specs.declared.Fault.TheVariants.{TooLong, ListLength, AreaTooShort, TooManyRecords}
 use Rattle.format.specs.declared.Record.{Record}
-use Rattle.format.specs.declared.Ruling.{Ruling}
-use Rattle.format.specs.declared.Answer.{Answer}
+use Rattle.format.specs.Refusal.{Ruling, Answer, need, ◌then◌, answer, unless_refused, entries_only}
 use Rattle.format.specs.Limits.{records_most}
-use Rattle.format.specs.Refusal.{need, ◌then◌, answer, unless_refused, entries_only}
 use Rattle.format.specs.Record.{list_fits, records_of, encode}
 use Rattle.format.specs.Origins.{Origin, fresh, drawn, origins}
 use Rattle.walk.specs.declared.Scope.TheVariants as scope

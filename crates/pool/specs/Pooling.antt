@@ -1,26 +1,17 @@
--- One piece taken by two cursors; and what the counting and the writing of a pooled list ask and give.
+-- Which of two pieces stands in the pooled list; and what the counting and the writing of a pooled list ask and give.
 -- Assumes nothing.
 use Rattle.std.specs.Prelude.{ℕ, ◌≤◌, ◌≡◌, List, length}
 use Rattle.format.specs.declared.Record.{Record}
 use Rattle.format.specs.declared.Record.TheVariants.{New, Match}
 use Rattle.format.specs.Record.{records_of, encode}
 use Rattle.format.specs.Meaning.{whole}
-use Rattle.cursors.specs.declared.Cursor.{Cursor}
-use Rattle.cursors.specs.Cut.{lead}
-use Rattle.cursors.specs.Cursor.{rest_at, moved, piece_size, Checked}
-use Rattle.pool.specs.declared.Taken.{Taken}
+use Rattle.cursors.specs.Cursor.{Checked}
 use Rattle.pool.specs.Pool.{pooled_list}
 
 -- of two pieces of one size: the first if it is a match, else the second
 abbrev pub preferred : Record → Record → Record
 preferred (New s) q = q
 preferred (Match s a) q = Match s a
-
--- the piece, and both cursors behind it
-pub record Takes (first second : List ℕ) (x y : Cursor) (t : Taken) : Type 0 where
-  pub piece_is : t.piece ≡ preferred (lead (piece_size first second x y) (rest_at first x)) (lead (piece_size first second x y) (rest_at second y))
-  pub first_is : t.first ≡ moved (rest_at first x) x (piece_size first second x y)
-  pub second_is : t.second ≡ moved (rest_at second y) y (piece_size first second x y)
 
 -- two lists that were checked and cover equally many bytes
 pub record Alongside (first second : List ℕ) : Type 0 where

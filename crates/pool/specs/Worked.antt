@@ -1,14 +1,12 @@
 -- Worked examples of pool, as one table (clause 10.11): the two lists, the version, and the area before the call; then what pool answers, and the area
 -- after it. The store of all is ABABC.
 -- Assumes nothing.
-use Rattle.std.specs.Prelude.{ℕ, ◌≡◌, List, [], ◌∷◌, ◌++◌, map, length, replicate}
+use Rattle.std.specs.Prelude.{ℕ, ◌≡◌, List, [], ◌∷◌, ◌++◌, map, length, replicate, Ok, Err}
 use Rattle.format.specs.declared.Fault.{Fault}
 use Rattle.format.specs.declared.Fault.TheVariants as fault
 use Rattle.format.specs.declared.Record.{Record}
 use Rattle.format.specs.declared.Record.TheVariants.{New, Match}
-use Rattle.format.specs.declared.Answer.{Answer}
-use Rattle.format.specs.declared.Answer.TheVariants.{Accepted, Refused}
-use Rattle.format.specs.Refusal.{refuse, entries_only}
+use Rattle.format.specs.Refusal.{Answer, refuse, entries_only}
 use Rattle.format.specs.Record.{free_at, held_at, encode}
 use Rattle.pool.specs.Pool.{pool_answer, pool_area}
 
@@ -27,11 +25,11 @@ blank n = replicate n 7
 -- two lists of a version that become this one, in an area longer by so many bytes, which stay
 abbrev pub becomes : List Record → List Record → List ℕ → List Record → ℕ → Worked
 becomes l k v p stay =
-    record { first = encode l; second = encode k; version = v; before = blank (length (encode p)) ++ blank stay; told = Accepted (entries_only (length p)); after = encode p ++ blank stay }
+    record { first = encode l; second = encode k; version = v; before = blank (length (encode p)) ++ blank stay; told = Ok (entries_only (length p)); after = encode p ++ blank stay }
 
 -- two lists of a version that are refused, in an area of so many bytes, which stay
 abbrev pub refused : List ℕ → List ℕ → List ℕ → ℕ → Fault → ℕ → Worked
-refused list₁ list₂ v room f place = record { first = list₁; second = list₂; version = v; before = blank room; told = Refused (refuse f place); after = blank room }
+refused list₁ list₂ v room f place = record { first = list₁; second = list₂; version = v; before = blank room; told = Err (refuse f place); after = blank room }
 
 abbrev pub m : ℕ → ℕ → Record
 m s a = Match s (free_at a)

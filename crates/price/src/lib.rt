@@ -11,28 +11,29 @@ ghost use Rattle.price.specs.Price.{entry_most, price_fits, rates_of, news, cost
 
 use format::Record;
 
-// Bytes of the index.
-#[derive(Clone, Copy)]
+// Bytes of the index. A struct for each unit, as clause 13.2 asks.
+#[derive(Clone, Copy, Debug, PartialEq, Eq)]
 pub struct IndexBytes(pub u64);
 
 // Bytes of disk.
-#[derive(Clone, Copy)]
+#[derive(Clone, Copy, Debug, PartialEq, Eq)]
 pub struct DiskBytes(pub u64);
 
 // 256ths of a disk byte, the unit of cost.
-#[derive(Clone, Copy)]
+#[derive(Clone, Copy, Debug, PartialEq, Eq, PartialOrd, Ord)]
 pub struct Cost(pub u64);
 
 // EN and EM, the index bytes of a new entry and of a match, and F, the 256ths of a disk byte that one of them is worth.
-#[derive(Clone, Copy)]
+#[derive(Clone, Copy, Debug, PartialEq, Eq)]
 pub struct Price {
     pub en: u32,
     pub em: u32,
     pub f: u32,
 }
 
-// What a list costs by its parts: a new entry, a kept match, and a stored byte.
-#[derive(Clone, Copy)]
+// What a list costs by its parts: a new entry, a kept match, and a stored byte. `RatesFit` is a clause and no invariant of the type, as `rates_of`
+// answers for each price, in range or not.
+#[derive(Clone, Copy, Debug, PartialEq, Eq)]
 pub struct Rates {
     pub fresh: Cost,
     pub kept: Cost,
@@ -44,7 +45,7 @@ pub fn index_cost(index: IndexBytes, factor: u32) -> Cost
     requires { index.0 < 4294967296 }
     ensures { result ≡ record { 0 = factor * index.0 } }
 {
-    Cost((factor as u64) * index.0)
+    Cost(u64::from(factor) * index.0)
 }
 
 // What disk bytes cost: 256 for each.
@@ -59,30 +60,15 @@ pub fn disk_cost(disk: DiskBytes) -> Cost
 pub fn in_range(price: Price) -> bool
     ensures { result ≡ price_fits price }
 {
-    if price.en < 1 {
-        return false;
-    }
-    if 255 < price.en {
-        return false;
-    }
-    if price.em < 1 {
-        return false;
-    }
-    if 255 < price.em {
-        return false;
-    }
-    if price.f < 1 {
-        return false;
-    }
-    price.f <= 65535
+    matches!(price.en, 1..=255) && matches!(price.em, 1..=255) && matches!(price.f, 1..=65535)
 }
 
 // The rates of a price: a new entry costs F × EN, a match F × EM, and a stored byte 256.
 pub fn rates_of(price: Price) -> Rates
     ensures { result ≡ rates_of price }
 {
-    let fresh = index_cost(IndexBytes(price.en as u64), price.f);
-    let kept = index_cost(IndexBytes(price.em as u64), price.f);
+    let fresh = index_cost(IndexBytes(u64::from(price.en)), price.f);
+    let kept = index_cost(IndexBytes(u64::from(price.em)), price.f);
     let byte = disk_cost(DiskBytes(1));
     Rates { fresh, kept, byte }
 }
@@ -92,10 +78,10 @@ pub fn storing(rates: Rates, bytes: u32) -> Cost
     requires { RatesFit rates }
     ensures { Storing rates bytes result }
 {
-    Cost(rates.byte.0 * (bytes as u64))
+    Cost(rates.byte.0 * u64::from(bytes))
 }
 
-// 1 for a new record, 0 for a match.
+// 1 for a new record, 0 for a match: two arms, which a test turned into a number would not shorten.
 fn one_if_new(record: Record) -> u64
     ensures { (result ≡ news («record» ∷ [])) × (result ≤ 1) }
 {
@@ -110,12 +96,9 @@ fn tally(list: &[u8]) -> u64
     requires { length list.now ≤ list_most }
     ensures { Tallied list.now result }
 {
-    let n = list.len() / 12;
     let mut count: u64 = 0;
-    let mut i = 0;
-    while i < n {
+    for i in 0..list.len() / 12 {
         count += one_if_new(format::record_at(list, i));
-        i += 1;
     }
     count
 }

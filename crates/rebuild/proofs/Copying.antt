@@ -7,12 +7,12 @@ use mathlib.Core.List.{List, [], ◌∷◌, ◌++◌}
 use lib.ListN.{length, drop, length-append}
 use Rattle.format.specs.declared.Record.{Record}
 use Rattle.format.specs.Record.{row_at, record_of, records_of, records_from}
-use Rattle.format.specs.Meaning.{stored, rebuilt, part_of}
+use Rattle.format.specs.Meaning.{whole, stored, rebuilt, part_of}
 use Rattle.format.specs.WellFormed.{Inside}
 use Rattle.format.proofs.Rows.{records_from_next, records_from_none, records_from_all, stored_cons}
 use Rattle.format.proofs.Rebuilding.{bytes_in, rebuilt_cons, length_rebuilt, inside_rest}
 use Rattle.area.specs.Area.{pasted}
-use Rattle.area.proofs.Filling.{Filling, filling_start, filling_put, filling_end, filling_room}
+use Rattle.area.proofs.Filling.{Filling, filling_start, filling_put, filling_out, filling_end, filling_room}
 use Rattle.rebuild.specs.Rebuild.{Ready, filled}
 use Rattle.show.specs.Show.{Lies}
 use Rattle.show.proofs.Lending.{lies_first}
@@ -23,8 +23,11 @@ pub record Copied (list block st area₀ area : List ℕ) (n i used out : ℕ) :
   pub filling : Filling (rebuilt (records_of list) block st) area₀ area out (rebuilt (records_from list n i) (drop used block) st)
 
 module _ {list block st area₀ : List ℕ} (ready : Ready list block st area₀) where
+  length_is : length (rebuilt (records_of list) block st) ≡ whole (records_of list)
+  length_is = length_rebuilt (records_of list) block st ready.inside (omega (arith, ready.block_fits))
+
   room : length (rebuilt (records_of list) block st) ≤ length area₀
-  room = omega (arith, ready.room, ready.block_fits, length_rebuilt (records_of list) block st ready.inside (omega (arith, ready.block_fits)))
+  room = omega (arith, ready.room, length_is)
 
   pub copied_start : Copied list block st area₀ area₀ (length list / 12) 0 0 0
   copied_start =
@@ -38,6 +41,9 @@ module _ {list block st area₀ : List ℕ} (ready : Ready list block st area₀
   module _ {area : List ℕ} {n i used out : ℕ} (c : Copied list block st area₀ area n i used out) where
     pub copied_end : n ≤ i → area ≡ filled list block st area₀
     copied_end h = filling_end (rw (records_from_none list n i h) at c.filling)
+
+    pub copied_out : n ≤ i → out ≡ whole (records_of list)
+    copied_out h = filling_out (rw (records_from_none list n i h) at c.filling) ∙ length_is
 
     -- r is record i
     module _ {r : Record} (is : r ≡ record_of (row_at list i)) (h : i < n) where

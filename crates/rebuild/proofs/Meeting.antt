@@ -3,7 +3,7 @@
 use Prim.Native.Nat.{ℕ}
 use mathlib.Core.Path.{◌≡◌}
 use mathlib.Core.List.{List}
-use Rattle.format.specs.declared.Answer.{Answer}
+use Rattle.format.specs.Refusal.{Answer}
 use Rattle.rebuild.specs.Rebuild.{rebuild_answer, rebuild_area, Rebuilt}
 
 pub rebuilt_made : (list block st area : List ℕ) {r : Answer} {after : List ℕ} → (r ≡ rebuild_answer list block st area) × (after ≡ rebuild_area list block st area)

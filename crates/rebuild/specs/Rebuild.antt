@@ -2,9 +2,7 @@
 -- Assumes nothing.
 use Rattle.std.specs.Prelude.{ℕ, ◌≤◌, ◌≡◌, List, leb, length}
 use Rattle.format.specs.declared.Fault.TheVariants.{AreaTooShort}
-use Rattle.format.specs.declared.Ruling.{Ruling}
-use Rattle.format.specs.declared.Answer.{Answer}
-use Rattle.format.specs.Refusal.{need, ◌then◌, answer, unless_refused, length_only}
+use Rattle.format.specs.Refusal.{Ruling, Answer, need, ◌then◌, answer, unless_refused, length_only}
 use Rattle.format.specs.Record.{records_of}
 use Rattle.format.specs.Meaning.{whole, stored, rebuilt}
 use Rattle.format.specs.WellFormed.{Inside}

@@ -2,42 +2,40 @@
 #![tactic(auto)]
 
 ghost use Rattle.std.specs.Prelude.{◌≡◌};
+ghost use Rattle.format.specs.Record.{records_of};
+ghost use Rattle.format.specs.Meaning.{whole};
 ghost use Rattle.rebuild.specs.Rebuild.{rebuild_answer, rebuild_area, Ready, filled};
 
-use format::{Answer, Fault};
-use walk::Walked;
+use format::{Answer, Fault, need};
 
-// Copies what each record stands for, one after the other.
-fn fill<'a>(list: &[u8], block: &'a [u8], store: &'a [u8], area: &mut [u8])
+// Copies what each record stands for, one after the other; the answer is how many bytes those are.
+pub fn fill(list: &[u8], block: &[u8], store: &[u8], area: &mut [u8]) -> usize
     requires { Ready list.now block.now store.now area.old }
-    ensures { area.new ≡ filled list.now block.now store.now area.old }
+    ensures length_is { result ≡ whole (records_of list.now) }
+    ensures area_after { area.new ≡ filled list.now block.now store.now area.old }
 {
-    let n = list.len() / 12;
     let mut used = 0;
     let mut out = 0;
-    let mut i = 0;
-    while i < n {
+    for i in 0..list.len() / 12 {
         let record = format::record_at(list, i);
         let part = show::part_of(record, used, block, store);
         area::put(area, out, part);
         out += part.len();
         used = show::stored_after(record, used);
-        i += 1;
     }
+    out
 }
 
 // Rebuild: the version's bytes, from the list, its stored block and the store.
-pub fn rebuild<'a>(list: &[u8], block: &'a [u8], store: &'a [u8], area: &mut [u8]) -> Answer
+pub fn rebuild(list: &[u8], block: &[u8], store: &[u8], area: &mut [u8]) -> Answer
     ensures answered { result ≡ rebuild_answer list.now block.now store.now area.old }
     ensures area_after { area.new ≡ rebuild_area list.now block.now store.now area.old }
 {
     let w = show::accept(list, block, store);
-    let Walked::Through(t) = w else {
-        return Answer::Refused(walk::refusal_of(w));
+    let Ok(t) = w else {
+        return Err(w.unwrap_err());
     };
-    if area.len() < format::index(t.whole) {
-        return format::refused(Fault::AreaTooShort);
-    }
+    need(t.whole as usize <= area.len(), Fault::AreaTooShort)?;
     fill(list, block, store, area);
     format::length_only(t.whole)
 }

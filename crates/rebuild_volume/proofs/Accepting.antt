@@ -1,6 +1,7 @@
 -- What chunks that are accepted have: each can be rebuilt behind those before it, and their lengths, which are all that the checks see, add up to the volume's.
 -- One chunk more is accepted where it is accepted behind the volume so far.
 -- Assumes nothing.
+use Rattle.std.specs.Prelude.{Ok, Err}
 use Prim.Native.Nat.{ℕ, ◌+◌, ◌/◌, ◌%◌, ◌≤◌}
 use native.Mathlib.Omega.{arith}
 use native.Mathlib.Nat.{div-add-mod}
@@ -13,11 +14,8 @@ use borrow.Author.Tests.{leb-true, le-leb, eqb-true, eq-eqb}
 use Rattle.format.specs.declared.Fault.TheVariants.{ListLength, BlockLength, AreaTooShort}
 use Rattle.format.specs.declared.Fault.TheVariants as fault
 use Rattle.format.specs.declared.Record.{Record}
-use Rattle.format.specs.declared.Answer.{Answer}
-use Rattle.format.specs.declared.Ruling.{Ruling}
-use Rattle.format.specs.declared.Ruling.TheVariants.{Fine, Stop}
+use Rattle.format.specs.Refusal.{Answer, Ruling, need, ◌then◌}
 use Rattle.format.specs.Limits.{volume_most, index_most}
-use Rattle.format.specs.Refusal.{need, ◌then◌}
 use Rattle.format.specs.Record.{records_of, rows_of, list_fits, encode}
 use Rattle.format.specs.Meaning.{whole, stored}
 use Rattle.format.specs.WellFormed.{Inside, Readable}
@@ -42,7 +40,7 @@ pub record ChunkFit (n : ℕ) (c : Chunk) : Type 0 where
   pub each : Each (checks (scope.Chunk n) [] []) front (rows_of c.list)
   pub block_fits : length c.block ≡ stored (records_of c.list)
 
-pub fit_of_chunk : {n : ℕ} {c : Chunk} → chunk_ruling n c ≡ Fine → ChunkFit n c
+pub fit_of_chunk : {n : ℕ} {c : Chunk} → chunk_ruling n c ≡ Ok tt → ChunkFit n c
 fit_of_chunk {n} {c} e =
     let p = parts_of_read (scope.Chunk n) c.list c.block [] e in
     record { list_in_limits = p.0; each = each_of_fine (checks (scope.Chunk n) [] []) front (rows_of c.list) p.1; block_fits = p.2 }
@@ -62,28 +60,28 @@ module _ {n : ℕ} {c : Chunk} (a : ChunkFit n c) where
       omega (arith, length-append d (chunk_bytes c d), length_rebuilt (records_of c.list) c.block d (fit_inside d is) (omega (arith, a.block_fits)))
 
 -- a list that was written, with its stored block
-pub chunk_written : (d : List ℕ) (l : List Record) (b : List ℕ) → length l ≤ 4096 → Readable l b d → length d + whole l ≤ volume_most → chunk_ruling (length d) (chunk (encode l) b) ≡ Fine
+pub chunk_written : (d : List ℕ) (l : List Record) (b : List ℕ) → length l ≤ 4096 → Readable l b d → length d + whole l ≤ volume_most → chunk_ruling (length d) (chunk (encode l) b) ≡ Ok tt
 chunk_written d l b few r most =
     read_fine (scope.Chunk (length d)) (encode l) b [] (fits_encode l few) (walk_chunk d l r.sized r.apart r.inside r.whole_most most) (r.block_fits ∙ ap stored (sym (records_encode l)))
 
 -- ---- chunks
 
-pub fine_of_placed : (p : ℕ) (q : Ruling) → placed p q ≡ Fine → q ≡ Fine
-fine_of_placed p Fine e = refl
-fine_of_placed p (Stop r) e = stop_fine e
+pub fine_of_placed : (p : ℕ) (q : Ruling) → placed p q ≡ Ok tt → q ≡ Ok tt
+fine_of_placed p (Ok _) e = refl
+fine_of_placed p (Err r) e = stop_fine e
 
 module _ (p n : ℕ) (c : Chunk) (cs : List Chunk) where
   -- the first, and those behind it
-  pub fine_of_chunks : chunks_ruling p n (c ∷ cs) ≡ Fine → (chunk_ruling n c ≡ Fine) × (chunks_ruling (p + 1) (n + whole_of c) cs ≡ Fine)
+  pub fine_of_chunks : chunks_ruling p n (c ∷ cs) ≡ Ok tt → (chunk_ruling n c ≡ Ok tt) × (chunks_ruling (p + 1) (n + whole_of c) cs ≡ Ok tt)
   fine_of_chunks e =
       let both = fine_of_then (placed p (chunk_ruling n c)) (chunks_ruling (p + 1) (n + whole_of c) cs) e in
       (fine_of_placed p (chunk_ruling n c) both.0, both.1)
 
-  pub chunks_of_fine : chunk_ruling n c ≡ Fine → chunks_ruling (p + 1) (n + whole_of c) cs ≡ Fine → chunks_ruling p n (c ∷ cs) ≡ Fine
+  pub chunks_of_fine : chunk_ruling n c ≡ Ok tt → chunks_ruling (p + 1) (n + whole_of c) cs ≡ Ok tt → chunks_ruling p n (c ∷ cs) ≡ Ok tt
   chunks_of_fine h k = rw (h, k)
 
 -- chunks that are accepted behind d
-pub sound_of_fine : (p n : ℕ) (d : List ℕ) (cs : List Chunk) → n ≡ length d → n ≤ volume_most → chunks_ruling p n cs ≡ Fine
+pub sound_of_fine : (p n : ℕ) (d : List ℕ) (cs : List Chunk) → n ≡ length d → n ≤ volume_most → chunks_ruling p n cs ≡ Ok tt
     → Sound d cs × (length (volume d cs) ≡ n + wholes cs) × (n + wholes cs ≤ volume_most)
 sound_of_fine p n d [] is k e = (tt, omega arith, omega arith)
 sound_of_fine p n d (c ∷ cs) is k e =
@@ -94,7 +92,7 @@ sound_of_fine p n d (c ∷ cs) is k e =
     ((fit_inside a d is, a.block_fits, rest.0), omega (arith, rest.1), omega (arith, rest.2))
 
 -- some, and others behind them
-pub fine_of_append : (p n : ℕ) (cs es : List Chunk) → chunks_ruling p n (cs ++ es) ≡ Fine → (chunks_ruling p n cs ≡ Fine) × (chunks_ruling (p + length cs) (n + wholes cs) es ≡ Fine)
+pub fine_of_append : (p n : ℕ) (cs es : List Chunk) → chunks_ruling p n (cs ++ es) ≡ Ok tt → (chunks_ruling p n cs ≡ Ok tt) × (chunks_ruling (p + length cs) (n + wholes cs) es ≡ Ok tt)
 fine_of_append p n [] es e =
     let a : p ≡ p + 0 = omega arith in
     let b : n ≡ n + 0 = omega arith in
@@ -106,7 +104,7 @@ fine_of_append p n (c ∷ cs) es e =
     let b : n + whole_of c + wholes cs ≡ n + wholes (c ∷ cs) = omega arith in
     (chunks_of_fine p n c cs both.0 rest.0, ap (λ (m : ℕ). chunks_ruling m (n + wholes (c ∷ cs)) es) (sym a) ∙ ap (λ (m : ℕ). chunks_ruling (p + 1 + length cs) m es) (sym b) ∙ rest.1)
 
-pub append_of_fine : (p n : ℕ) (cs : List Chunk) (c : Chunk) → chunks_ruling p n cs ≡ Fine → chunk_ruling (n + wholes cs) c ≡ Fine → chunks_ruling p n (cs ++ c ∷ []) ≡ Fine
+pub append_of_fine : (p n : ℕ) (cs : List Chunk) (c : Chunk) → chunks_ruling p n cs ≡ Ok tt → chunk_ruling (n + wholes cs) c ≡ Ok tt → chunks_ruling p n (cs ++ c ∷ []) ≡ Ok tt
 append_of_fine p n [] c h k =
     let z : n + 0 ≡ n = omega arith in
     chunks_of_fine p n c [] (rw z at k) refl
@@ -150,11 +148,11 @@ module _ (index lists blocks : List ℕ) where
 pub record Fit (index lists blocks area : List ℕ) : Type 0 where
   pub index_at_most : length index ≤ index_most
   pub fitting : Fitting index lists blocks (length index / 8)
-  pub chunks_fine : chunks_ruling 0 0 (chunks_of index lists blocks) ≡ Fine
+  pub chunks_fine : chunks_ruling 0 0 (chunks_of index lists blocks) ≡ Ok tt
   pub room : length (volume_of index lists blocks) ≤ length area
 
 module _ (index lists blocks area : List ℕ) where
-  pub fit_of_fine : volume_ruling index lists blocks area ≡ Fine → Fit index lists blocks area
+  pub fit_of_fine : volume_ruling index lists blocks area ≡ Ok tt → Fit index lists blocks area
   fit_of_fine e =
       let chunks : Ruling = chunks_ruling 0 0 (chunks_of index lists blocks) in
       let long : Bool = leb (length (volume_of index lists blocks)) (length area) in
@@ -168,8 +166,8 @@ module _ (index lists blocks area : List ℕ) where
         room = leb-true (length (volume_of index lists blocks)) (length area) (true_of_need long AreaTooShort 0 b.1);
       }
 
-  pub fine_of_fit : {n : ℕ} → length index ≤ index_most → Fitting index lists blocks n → chunks_ruling 0 0 (chunks_of index lists blocks) ≡ Fine
-      → length (volume_of index lists blocks) ≤ length area → volume_ruling index lists blocks area ≡ Fine
+  pub fine_of_fit : {n : ℕ} → length index ≤ index_most → Fitting index lists blocks n → chunks_ruling 0 0 (chunks_of index lists blocks) ≡ Ok tt
+      → length (volume_of index lists blocks) ≤ length area → volume_ruling index lists blocks area ≡ Ok tt
   fine_of_fit most f e room = rw (fits_of_fitting index lists blocks most f, e, le-leb (length (volume_of index lists blocks)) (length area) room)
 
 -- a call that meets the clauses of the contract, as the laws speak of it

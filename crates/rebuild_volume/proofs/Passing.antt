@@ -1,5 +1,6 @@
 -- The walk over the chunks: before chunk i, what is still to be ruled on, and the length so far. Then the checks of the call, one by one.
 -- Assumes nothing.
+use Rattle.std.specs.Prelude.{Ok, Err}
 use Prim.Native.Nat.{ℕ, ◌+◌, ◌/◌, ◌%◌, ◌≤◌, ◌<◌}
 use native.Mathlib.Omega.{arith}
 use mathlib.Core.Path.{◌≡◌, refl, sym, ◌∙◌, ap}
@@ -10,7 +11,6 @@ use lib.ListN.{length, take, drop}
 use borrow.Author.Tests.{le-leb, lt-leb, eq-eqb, ne_eqb}
 use Rattle.format.specs.declared.Fault.TheVariants.{AreaTooShort, Index}
 use Rattle.format.specs.declared.Refusal.{Refusal}
-use Rattle.format.specs.declared.Ruling.TheVariants.{Fine, Stop}
 use Rattle.format.specs.Limits.{volume_most, index_most}
 use Rattle.format.specs.Refusal.{refuse}
 use Rattle.volume.specs.declared.IndexRow.{IndexRow}
@@ -39,7 +39,7 @@ passed_start {index} {lists} {blocks} ready =
     }
 
 module _ {index lists blocks : List ℕ} {n i l b at : ℕ} (passed : Passed index lists blocks n i l b at) where
-  pub passed_end : n ≤ i → (chunks_ruling 0 0 (chunks_of index lists blocks) ≡ Fine) × (at ≡ wholes (chunks_of index lists blocks))
+  pub passed_end : n ≤ i → (chunks_ruling 0 0 (chunks_of index lists blocks) ≡ Ok tt) × (at ≡ wholes (chunks_of index lists blocks))
   passed_end h =
       let e : chunks_from index lists blocks n i l b ≡ [] = chunks_none index lists blocks n i l b h in
       (passed.ruling ∙ ap (chunks_ruling i at) e, sym (passed.whole_is ∙ ap (λ (cs : List Chunk). at + wholes cs) e ∙ omega arith))
@@ -52,10 +52,10 @@ module _ {index lists blocks : List ℕ} {n i l b at : ℕ} (passed : Passed ind
     chunks : chunks_from index lists blocks n i l b ≡ c ∷ chunks_from index lists blocks n (i + 1) (l + x) (b + y)
     chunks = chunks_next passed.cut is h x_is y_is
 
-    pub passed_stop : {z : Refusal} → chunk_ruling at c ≡ Stop z → chunks_ruling 0 0 (chunks_of index lists blocks) ≡ Stop (refuse z.fault i)
+    pub passed_stop : {z : Refusal} → chunk_ruling at c ≡ Err z → chunks_ruling 0 0 (chunks_of index lists blocks) ≡ Err (refuse z.fault i)
     passed_stop e = passed.ruling ∙ ap (chunks_ruling i at) chunks ∙ rw e
 
-    module _ (e : chunk_ruling at c ≡ Fine) where
+    module _ (e : chunk_ruling at c ≡ Ok tt) where
       pub passed_most : at + whole_of c ≤ volume_most
       passed_most = fit_most (fit_of_chunk {c = c} e) passed.most
 
@@ -89,25 +89,25 @@ module _ (index lists blocks : List ℕ) where
 -- ---- the call
 
 module _ (index lists blocks area : List ℕ) where
-  pub volume_index : index_fits index lists blocks ≡ false → volume_ruling index lists blocks area ≡ Stop (refuse Index 0)
+  pub volume_index : index_fits index lists blocks ≡ false → volume_ruling index lists blocks area ≡ Err (refuse Index 0)
   volume_index a = rw a
 
   module _ (a : index_fits index lists blocks ≡ true) where
     pub index_ready : IndexReady index lists blocks
     index_ready = let f = fitting_of_fits index lists blocks a in record { index_at_most = f.0; lists_fit = f.1.lists_fit; blocks_fit = f.1.blocks_fit }
 
-    pub volume_chunks : {z : Refusal} → chunks_ruling 0 0 (chunks_of index lists blocks) ≡ Stop z → volume_ruling index lists blocks area ≡ Stop z
+    pub volume_chunks : {z : Refusal} → chunks_ruling 0 0 (chunks_of index lists blocks) ≡ Err z → volume_ruling index lists blocks area ≡ Err z
     volume_chunks e = rw (a, e)
 
-    module _ (e : chunks_ruling 0 0 (chunks_of index lists blocks) ≡ Fine) where
+    module _ (e : chunks_ruling 0 0 (chunks_of index lists blocks) ≡ Ok tt) where
       pub volume_length : length (volume_of index lists blocks) ≡ wholes (chunks_of index lists blocks)
       volume_length = omega (arith, (sound_of_fine 0 0 [] (chunks_of index lists blocks) refl (omega arith) e).1)
 
-      pub volume_short : length area < wholes (chunks_of index lists blocks) → volume_ruling index lists blocks area ≡ Stop (refuse AreaTooShort 0)
+      pub volume_short : length area < wholes (chunks_of index lists blocks) → volume_ruling index lists blocks area ≡ Err (refuse AreaTooShort 0)
       volume_short h = rw (a, e, lt-leb (length (volume_of index lists blocks)) (length area) (omega (arith, volume_length)))
 
       module _ (h : wholes (chunks_of index lists blocks) ≤ length area) where
-        pub volume_fine : volume_ruling index lists blocks area ≡ Fine
+        pub volume_fine : volume_ruling index lists blocks area ≡ Ok tt
         volume_fine = rw (a, e, le-leb (length (volume_of index lists blocks)) (length area) (omega (arith, volume_length)))
 
         pub volume_ready : VolumeReady index lists blocks area

@@ -1,12 +1,9 @@
 -- The call rebuild_volume: its checks in their order, its answer, and the area after it.
 -- Assumes nothing.
-use Rattle.std.specs.Prelude.{ℕ, ◌+◌, ◌%◌, ◌≤◌, ◌≡◌, Bool, ◌&&◌, List, [], ◌∷◌, eqb, leb, length}
+use Rattle.std.specs.Prelude.{ℕ, ◌+◌, ◌%◌, ◌≤◌, ◌≡◌, Bool, ◌&&◌, List, [], ◌∷◌, eqb, leb, length, Ok, Err}
 use Rattle.format.specs.declared.Fault.TheVariants.{AreaTooShort, Index}
-use Rattle.format.specs.declared.Ruling.{Ruling}
-use Rattle.format.specs.declared.Ruling.TheVariants.{Fine, Stop}
-use Rattle.format.specs.declared.Answer.{Answer}
+use Rattle.format.specs.Refusal.{Ruling, Answer, refuse, need, ◌then◌, answer, unless_refused, length_only}
 use Rattle.format.specs.Limits.{index_most}
-use Rattle.format.specs.Refusal.{refuse, need, ◌then◌, answer, unless_refused, length_only}
 use Rattle.format.specs.Record.{records_of}
 use Rattle.format.specs.Meaning.{whole}
 use Rattle.walk.specs.declared.Scope.TheVariants as scope
@@ -26,8 +23,8 @@ chunk_ruling n c = read_ruling (scope.Chunk n) c.list c.block []
 
 -- the same fault at another place
 abbrev pub placed : ℕ → Ruling → Ruling
-placed p Fine = Fine
-placed p (Stop r) = Stop (refuse r.fault p)
+placed p (Ok _) = Ok tt
+placed p (Err r) = Err (refuse r.fault p)
 
 -- the bytes that a chunk covers, and chunks together
 abbrev pub whole_of : Chunk → ℕ
@@ -39,7 +36,7 @@ wholes (c ∷ cs) = whole_of c + wholes cs
 
 -- the chunks in their order, from chunk p on, where n bytes are rebuilt before it: the place is the chunk at fault
 abbrev pub chunks_ruling : ℕ → ℕ → List Chunk → Ruling
-chunks_ruling p n [] = Fine
+chunks_ruling p n [] = Ok tt
 chunks_ruling p n (c ∷ cs) = placed p (chunk_ruling n c) then chunks_ruling (p + 1) (n + whole_of c) cs
 
 -- the order: 14; chunk by chunk 3 to 10; at last 9, where the area is shorter than the volume

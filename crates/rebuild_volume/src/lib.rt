@@ -3,16 +3,14 @@
 
 ghost use Rattle.std.specs.Prelude.{◌≡◌, ◌≤◌, length};
 ghost use Rattle.format.specs.Limits.{index_most};
-ghost use Rattle.format.specs.Refusal.{refuse};
-ghost use Rattle.walk.specs.Walked.{refusal_of};
 ghost use Rattle.volume.specs.Volume.{chunks_of};
 ghost use Rattle.rebuild_volume.specs.RebuildVolume.{index_fits, volume_answer, volume_area, IndexReady, chunks_answer, SumsOf};
 
-use format::{Answer, Fault, Refusal};
-use walk::{Scope, Walked};
+use format::{Answer, Fault, Refusal, need};
+use walk::Scope;
 
 // The sums of the list lengths and of the stored lengths of an index.
-#[derive(Clone, Copy)]
+#[derive(Clone, Copy, Debug, PartialEq, Eq)]
 pub struct Sums {
     pub lists: usize,
     pub blocks: usize,
@@ -23,43 +21,26 @@ fn sums_of(index: &[u8]) -> Sums
     requires { length index.now ≤ index_most }
     ensures { SumsOf index.now result.lists result.blocks }
 {
-    let n = index.len() / 8;
     let mut lists = 0;
     let mut blocks = 0;
-    let mut i = 0;
-    while i < n {
+    for i in 0..index.len() / 8 {
         let row = volume::index_row_at(index, i);
-        lists += format::index(row.list);
-        blocks += format::index(row.block);
-        i += 1;
+        lists += row.list as usize;
+        blocks += row.block as usize;
     }
     Sums { lists, blocks }
 }
 
-// Check 14: whether the index is one, and the areas are as long as its sums.
+// Check 14: whether the index is one, and the areas are as long as its sums. The tests of the index are those of `checks::list_fits` with other limits:
+// as one function they would be no shorter.
 fn index_fits(index: &[u8], lists: &[u8], blocks: &[u8]) -> bool
     ensures { result ≡ index_fits index.now lists.now blocks.now }
 {
-    if format::INDEX_MOST < index.len() {
-        return false;
-    }
-    if index.len() % 8 != 0 {
+    if format::INDEX_MOST < index.len() || index.len() % 8 != 0 {
         return false;
     }
     let sums = sums_of(index);
-    if lists.len() != sums.lists {
-        return false;
-    }
-    blocks.len() == sums.blocks
-}
-
-// The refusal of a walk that was stopped, at the chunk.
-fn refused_at(w: Walked, i: u32) -> Answer
-    ensures { result ≡ Answer.Refused (refuse (refusal_of w).fault i) }
-{
-    let refusal = walk::refusal_of(w);
-    let fault = refusal.fault;
-    Answer::Refused(Refusal { fault, place: i })
+    lists.len() == sums.lists && blocks.len() == sums.blocks
 }
 
 // The chunks one after the other: the length that they come to, or the refusal of the first at fault.
@@ -67,28 +48,24 @@ fn accept_chunks(index: &[u8], lists: &[u8], blocks: &[u8]) -> Answer
     requires { IndexReady index.now lists.now blocks.now }
     ensures { result ≡ chunks_answer (chunks_of index.now lists.now blocks.now) }
 {
-    let n = index.len() / 8;
     let mut l = 0;
     let mut b = 0;
     let mut at: u32 = 0;
-    let mut i = 0;
-    while i < n {
+    for i in 0..index.len() / 8 {
         let row = volume::index_row_at(index, i);
-        let to = l + format::index(row.list);
-        let end = b + format::index(row.block);
-        let w = show::read(
-            &lists[l..to],
-            &blocks[b..end],
-            &lists[0..0],
-            Scope::Chunk(at),
-        );
-        let Walked::Through(t) = w else {
-            return refused_at(w, i as u32);
+        let to = l + row.list as usize;
+        let end = b + row.block as usize;
+        // No `map_err`: tried, the proof did not close, as what its closure promises is no equation that an answer can name.
+        let t = match show::read(&lists[l..to], &blocks[b..end], &[], Scope::Chunk(at)) {
+            Ok(totals) => totals,
+            Err(refusal) => return Err(Refusal {
+                place: i as u32,
+                ..refusal
+            }),
         };
         at += t.whole;
         l = to;
         b = end;
-        i += 1;
     }
     format::length_only(at)
 }
@@ -98,16 +75,9 @@ pub fn rebuild_volume(index: &[u8], lists: &[u8], blocks: &[u8], area: &mut [u8]
     ensures answered { result ≡ volume_answer index.now lists.now blocks.now area.old }
     ensures area_after { area.new ≡ volume_area index.now lists.now blocks.now area.old }
 {
-    if !index_fits(index, lists, blocks) {
-        return format::refused(Fault::Index);
-    }
-    let a = accept_chunks(index, lists, blocks);
-    let Answer::Accepted(figures) = a else {
-        return a;
-    };
-    if area.len() < format::index(figures.whole) {
-        return format::refused(Fault::AreaTooShort);
-    }
+    need(index_fits(index, lists, blocks), Fault::Index)?;
+    let figures = accept_chunks(index, lists, blocks)?;
+    need(figures.whole as usize <= area.len(), Fault::AreaTooShort)?;
     volume::fill_volume(index, lists, blocks, area);
-    a
+    Ok(figures)
 }

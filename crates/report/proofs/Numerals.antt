@@ -44,6 +44,7 @@ digits_most r n h f = go (leb r 20) refl
         absurd (omega (arith, f.2 (omega arith)))
 
 pub decimal_of_fewest : (r n : ℕ) → n < 18446744073709551616 → IsDigitCount 10 1 n r → last_digits 10 r n ≡ decimal n
+unfolding decimal
 decimal_of_fewest r n h f = decimal_digits r 20 n (digits_most r n h f) f.0 f.1 f.2
 
 length_in : (k n : ℕ) → length (decimal_in k n) ≤ k
@@ -55,4 +56,5 @@ length_in (suc k) n = go (ltb n 10) (length_in k (n / 10))
     go false h = omega (arith, length-append (decimal_in k (n / 10)) ((48 + n % 10) ∷ []))
 
 pub length_decimal : (n : ℕ) → length (decimal n) ≤ 20
+unfolding decimal
 length_decimal n = length_in 20 n

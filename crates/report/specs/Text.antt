@@ -1,12 +1,13 @@
 -- The text of the program `partition` (clauses 9.3 to 9.7): numbers in decimal, the line of a record, the line of figures, a refusal, a bad file.
 -- Assumes nothing.
-use Rattle.std.specs.Prelude.{ℕ, zero, suc, ◌+◌, ◌/◌, ◌%◌, ◌≡◌, cond, List, [], ◌∷◌, ◌++◌, ltb, length}
+use Rattle.std.specs.Prelude.{ℕ, zero, suc, ◌+◌, ◌/◌, ◌%◌, ◌≤◌, ◌≡◌, cond, List, [], ◌∷◌, ◌++◌, ltb, length}
 use Rattle.format.specs.declared.Record.{Record}
 use Rattle.format.specs.declared.Record.TheVariants.{New, Match}
 use Rattle.format.specs.declared.Figures.{Figures}
 use Rattle.format.specs.declared.Refusal.{Refusal}
 use Rattle.format.specs.Refusal.{number}
 use Rattle.area.specs.Area.{pasted}
+use Rattle.report.specs.declared.Text.{Text}
 
 -- a number of at most so many digits in decimal
 abbrev pub decimal_in : ℕ → ℕ → List ℕ
@@ -14,7 +15,7 @@ decimal_in zero n = []
 decimal_in (suc k) n = cond (ltb n 10) ((48 + n) ∷ []) (decimal_in k (n / 10) ++ ((48 + n % 10) ∷ []))
 
 -- a 64-bit number in decimal
-abbrev pub decimal : ℕ → List ℕ
+unfoldable pub decimal : ℕ → List ℕ
 decimal n = decimal_in 20 n
 
 -- a word and a number after it; the same at the end of a line
@@ -60,3 +61,12 @@ bad_file_text name = (98 ∷ 97 ∷ 100 ∷ 32 ∷ 102 ∷ 105 ∷ 108 ∷ 101 �
 pub record Written (at : ℕ) (s area : List ℕ) (r : ℕ) (after : List ℕ) : Type 0 where
   pub place : r ≡ at + length s
   pub area_after : after ≡ pasted at s area
+
+-- s written at the end of a text, in the same area
+pub record Wrote (before : Text) (s : List ℕ) (after : Text) : Type 0 where
+  pub same_area : after.area.ghost_name ≡ before.area.ghost_name
+  pub written : Written before.len s before.area.now after.len after.area.now
+
+-- the area of a text has room for s at its end
+pub record HasRoom (t : Text) (s : List ℕ) : Type 0 where
+  pub behind : t.len + length s ≤ length t.area.now

@@ -1,142 +1,144 @@
 // The text of the program `partition`, made in a lent area: the written records, one line of figures; or a refusal; or the name of a bad file.
 #![tactic(auto)]
 
-ghost use Rattle.std.specs.Prelude.{◌≡◌, ◌+◌, ◌*◌, ◌/◌, ◌≤◌, length};
+ghost use Rattle.std.specs.Prelude.{◌≡◌, ◌+◌, ◌*◌, ◌/◌, ◌≤◌, length, take};
 ghost use Rattle.format.specs.Record.{records_of};
-ghost use Rattle.report.specs.Text.{decimal, field, last_field, record_text, records_text, least_text, pass_text, report_text, refusal_text, bad_file_text, Written};
+ghost use Rattle.report.specs.Text.{decimal, field, last_field, record_text, records_text, least_text, pass_text, report_text, refusal_text, bad_file_text, HasRoom, Wrote};
 
-use format::{Figures, Record, Refusal, Source};
+use format::{Figures, Record, Refusal};
 
-fn wide(x: u32) -> u64
-    ensures { result ≡ x }
-{
-    x as u64
+// A text at the front of a lent area.
+// It has methods of its own, and no `write!`: that answers a `Result`, and promises its text only where this is `Ok`.
+#[derive(Drop)]
+pub struct Text<'a> {
+    area: &'a mut [u8],
+    len: usize,
 }
 
-// Copies bytes over the area from `at` on, and gives the place after them.
-fn put_bytes(area: &mut [u8], at: usize, src: &[u8]) -> usize
-    requires { at + length src.now ≤ length area.old }
-    ensures { Written at src.now area.old result area.new }
-{
-    area::put(area, at, src);
-    at + src.len()
-}
+impl<'a> Text<'a> {
+    // An empty text.
+    pub fn new(area: &'a mut [u8]) -> Text<'a>
+        ensures same_area { result.area.ghost_name ≡ area.entry.ghost_name }
+        ensures as_lent { result.area.now ≡ area.old }
+        ensures empty { result.len ≡ 0 }
+    {
+        Text { area, len: 0 }
+    }
 
-// Writes a number in decimal from `at` on, and gives the place after it.
-fn put_number(area: &mut [u8], at: usize, n: u64) -> usize
-    requires { at + 20 ≤ length area.old }
-    ensures written { Written at (decimal n) area.old result area.new }
-    ensures upper_bound { result ≤ at + 20 }
-{
-    let mut digits = [0u8; 20];
-    let k = io::decimal(n, &mut digits);
-    put_bytes(area, at, &digits[..k])
-}
+    // The bytes of the text.
+    pub fn bytes(&self) -> &[u8]
+        requires { self.now.len ≤ length self.now.area.now }
+        ensures { result.now ≡ take self.now.len self.now.area.now }
+    {
+        &self.area[..self.len]
+    }
 
-// A word and a number after it.
-fn put_field(area: &mut [u8], at: usize, word: &[u8], n: u64) -> usize
-    requires { at + length word.now + 20 ≤ length area.old }
-    ensures written { Written at (field word.now n) area.old result area.new }
-    ensures upper_bound { result ≤ at + length word.now + 20 }
-{
-    let next = put_bytes(area, at, word);
-    put_number(area, next, n)
-}
+    // Puts bytes at the end.
+    fn push(&mut self, bytes: &[u8])
+        requires { HasRoom self.old bytes.now }
+        ensures { Wrote self.old bytes.now self.new }
+    {
+        area::put(self.area, self.len, bytes);
+        self.len += bytes.len();
+    }
 
-// The same at the end of a line.
-fn put_last(area: &mut [u8], at: usize, word: &[u8], n: u32) -> usize
-    requires { at + length word.now + 21 ≤ length area.old }
-    ensures written { Written at (last_field word.now n) area.old result area.new }
-    ensures upper_bound { result ≤ at + length word.now + 21 }
-{
-    let next = put_field(area, at, word, wide(n));
-    put_bytes(area, next, b"\n")
-}
+    // Puts a number in decimal at the end.
+    fn push_number(&mut self, n: u64)
+        requires { HasRoom self.old (decimal n) }
+        ensures { Wrote self.old (decimal n) self.new }
+    {
+        let mut digits = [0u8; 20];
+        let k = io::decimal(n, &mut digits);
+        self.push(&digits[..k]);
+    }
 
-// The line of a match.
-fn put_match(area: &mut [u8], at: usize, size: u32, source: Source) -> usize
-    requires { at + 44 ≤ length area.old }
-    ensures written { Written at (record_text (Record.Match size source)) area.old result area.new }
-    ensures upper_bound { result ≤ at + 44 }
-{
-    let next = put_field(area, at, b"M ", wide(size));
-    put_last(area, next, b" ", source.address)
-}
+    // Puts a word and a number after it at the end.
+    fn push_field(&mut self, word: &[u8], n: u64)
+        requires { HasRoom self.old (field word.now n) }
+        ensures { Wrote self.old (field word.now n) self.new }
+    {
+        self.push(word);
+        self.push_number(n);
+    }
 
-// The line of a record.
-fn put_record(area: &mut [u8], at: usize, record: Record) -> usize
-    requires { at + 44 ≤ length area.old }
-    ensures written { Written at (record_text «record») area.old result area.new }
-    ensures upper_bound { result ≤ at + 44 }
-{
-    match record {
-        Record::New(size) => put_last(area, at, b"N ", size),
-        Record::Match(size, source) => put_match(area, at, size, source),
+    // The same at the end of a line.
+    fn push_last(&mut self, word: &[u8], n: u32)
+        requires { HasRoom self.old (last_field word.now n) }
+        ensures { Wrote self.old (last_field word.now n) self.new }
+    {
+        self.push_field(word, u64::from(n));
+        self.push(b"\n");
+    }
+
+    // The line of a record.
+    fn push_record(&mut self, record: Record)
+        requires { HasRoom self.old (record_text «record») }
+        ensures { Wrote self.old (record_text «record») self.new }
+    {
+        match record {
+            Record::New(size) => self.push_last(b"N ", size),
+            Record::Match(size, source) => {
+                self.push_field(b"M ", u64::from(size));
+                self.push_last(b" ", source.address);
+            }
+        }
+    }
+
+    // The lines of a list's records.
+    fn push_records(&mut self, list: &[u8])
+        requires { HasRoom self.old (records_text (records_of list.now)) }
+        ensures { Wrote self.old (records_text (records_of list.now)) self.new }
+    {
+        for i in 0..list.len() / 12 {
+            self.push_record(format::record_at(list, i));
+        }
+    }
+
+    // Partition's part of the line of figures.
+    fn push_least(&mut self, x: Figures)
+        requires { HasRoom self.old (least_text x) }
+        ensures { Wrote self.old (least_text x) self.new }
+    {
+        self.push_field(b"cost ", x.cost);
+        self.push_field(b" entries ", u64::from(x.entries));
+        self.push_field(b" bytes ", u64::from(x.stored));
+    }
+
+    // The pass's part, which ends the line.
+    fn push_pass(&mut self, y: Figures)
+        requires { HasRoom self.old (pass_text y) }
+        ensures { Wrote self.old (pass_text y) self.new }
+    {
+        self.push_field(b" pass ", y.cost);
+        self.push_last(b" steps ", y.looks);
     }
 }
 
-// The lines of a list's records; gives the place after them.
-fn put_records(area: &mut [u8], list: &[u8]) -> usize
-    requires { 44 * (length list.now / 12) ≤ length area.old }
-    ensures written { Written 0 (records_text (records_of list.now)) area.old result area.new }
-    ensures upper_bound { result ≤ 44 * (length list.now / 12) }
+// Each written record, then the line of figures.
+pub fn report(text: &mut Text<'_>, list: &[u8], x: Figures, y: Figures)
+    requires { text.old.len + 44 * (length list.now / 12) + 160 ≤ length text.old.area.now }
+    ensures { Wrote text.old (report_text (records_of list.now) x y) text.new }
 {
-    let n = list.len() / 12;
-    let mut at = 0;
-    let mut i = 0;
-    while i < n {
-        at = put_record(area, at, format::record_at(list, i));
-        i += 1;
-    }
-    at
+    text.push_records(list);
+    text.push_least(x);
+    text.push_pass(y);
 }
 
-// Partition's part of the line of figures.
-fn put_least(area: &mut [u8], at: usize, x: Figures) -> usize
-    requires { at + 81 ≤ length area.old }
-    ensures written { Written at (least_text x) area.old result area.new }
-    ensures upper_bound { result ≤ at + 81 }
+// A refusal.
+pub fn refusal(text: &mut Text<'_>, r: Refusal)
+    requires { text.old.len + 160 ≤ length text.old.area.now }
+    ensures { Wrote text.old (refusal_text r) text.new }
 {
-    let a = put_field(area, at, b"cost ", x.cost);
-    let b = put_field(area, a, b" entries ", wide(x.entries));
-    put_field(area, b, b" bytes ", wide(x.stored))
+    text.push_field(b"refused ", u64::from(u32::from(r.fault)));
+    text.push_last(b" at ", r.place);
 }
 
-// The pass's part, which ends the line.
-fn put_pass(area: &mut [u8], at: usize, y: Figures) -> usize
-    requires { at + 54 ≤ length area.old }
-    ensures { Written at (pass_text y) area.old result area.new }
+// The name of a bad file.
+pub fn bad_file(text: &mut Text<'_>, name: &[u8])
+    requires { text.old.len + length name.now + 160 ≤ length text.old.area.now }
+    ensures { Wrote text.old (bad_file_text name.now) text.new }
 {
-    let next = put_field(area, at, b" pass ", y.cost);
-    put_last(area, next, b" steps ", y.looks)
-}
-
-// Each written record, then the line of figures; gives the length of the text.
-pub fn report(area: &mut [u8], list: &[u8], x: Figures, y: Figures) -> usize
-    requires { 44 * (length list.now / 12) + 160 ≤ length area.old }
-    ensures { Written 0 (report_text (records_of list.now) x y) area.old result area.new }
-{
-    let at = put_records(area, list);
-    let next = put_least(area, at, x);
-    put_pass(area, next, y)
-}
-
-// A refusal; gives the length of the text.
-pub fn refusal(area: &mut [u8], r: Refusal) -> usize
-    requires { 160 ≤ length area.old }
-    ensures { Written 0 (refusal_text r) area.old result area.new }
-{
-    let fault = r.fault;
-    let next = put_field(area, 0, b"refused ", wide(format::number_of(fault)));
-    put_last(area, next, b" at ", r.place)
-}
-
-// The name of a bad file; gives the length of the text.
-pub fn bad_file(area: &mut [u8], name: &[u8]) -> usize
-    requires { length name.now + 160 ≤ length area.old }
-    ensures { Written 0 (bad_file_text name.now) area.old result area.new }
-{
-    let a = put_bytes(area, 0, b"bad file ");
-    let b = put_bytes(area, a, name);
-    put_bytes(area, b, b"\n")
+    text.push(b"bad file ");
+    text.push(name);
+    text.push(b"\n");
 }

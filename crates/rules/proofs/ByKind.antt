@@ -1,64 +1,18 @@
--- An item by its kind and size, and the first rule that applies by kinds.
+-- The size of an item of a kind, what is no match is passed by, and what is of neither kind is fused by no look.
 -- Assumes nothing.
 use Prim.Native.Nat.{ℕ, ◌+◌}
-use mathlib.Core.Path.{◌≡◌, refl, sym, ap, ◌∙◌}
-use mathlib.Core.Bool.{Bool, true, false, not, ◌&&◌, cond}
-use lib.Dec.{eqb}
-use borrow.Author.Tests.{eqb-true}
-use Rattle.rules.specs.declared.Cell.{Cell}
-use Rattle.rules.specs.declared.Merge.TheVariants.{Both, Before, After, Pair}
-use Rattle.rules.specs.declared.Outcome.{Outcome}
+use mathlib.Core.Path.{◌≡◌, refl}
+use mathlib.Core.Bool.{Bool, true, false, cond}
+use Rattle.rules.specs.declared.Kind.{Kind}
+use Rattle.rules.specs.declared.Kind.TheVariants.{New, Match, Neither}
+use Rattle.rules.specs.declared.Merge.TheVariants.{Before, After, Pair}
 use Rattle.rules.specs.declared.Outcome.TheVariants.{Advance, Merged}
-use Rattle.rules.specs.Rules.{Item, new, match, neither, size, is_new, is_match, Tests, outcome_at, fuses_before, fuses_after, Untouched, item_of, cell_item}
+use Rattle.rules.specs.Rules.{Item, new, match, neither, size, is_match, Tests, outcome_at, fuses_before, fuses_after, Untouched, item_of}
 
-pub size_item : (k s : ℕ) → size (item_of k s) ≡ s
-size_item k s = go (eqb k 0) (eqb k 1)
-  where
-    go : (a b : Bool) → size (cond a (new s) (cond b (match s) (neither s))) ≡ s
-    go true b = refl
-    go false true = refl
-    go false false = refl
-
-pub new_item : (k s : ℕ) → is_new (item_of k s) ≡ eqb k 0
-new_item k s = go (eqb k 0) (eqb k 1)
-  where
-    go : (a b : Bool) → is_new (cond a (new s) (cond b (match s) (neither s))) ≡ a
-    go true b = refl
-    go false true = refl
-    go false false = refl
-
-pub and_false : (a : Bool) → (a && false) ≡ false
-and_false true = refl
-and_false false = refl
-
-pub not_one_of_zero : (k : ℕ) → k ≡ 0 → eqb k 1 ≡ false
-not_one_of_zero k e = ap (λ (y : ℕ). eqb y 1) e
-
-pub match_item : (k s : ℕ) → is_match (item_of k s) ≡ eqb k 1
-match_item k s = go (eqb k 0) refl (eqb k 1) refl
-  where
-    go : (a : Bool) → eqb k 0 ≡ a → (b : Bool) → eqb k 1 ≡ b → is_match (cond a (new s) (cond b (match s) (neither s))) ≡ b
-    go true e b d = sym (not_one_of_zero k (eqb-true k 0 e)) ∙ d
-    go false e true d = refl
-    go false e false d = refl
-
-pub item_of_zero : (k s : ℕ) → k ≡ 0 → item_of k s ≡ new s
-item_of_zero k s e = ap (λ (j : ℕ). item_of j s) e
-
-pub item_of_one : (k s : ℕ) → k ≡ 1 → item_of k s ≡ match s
-item_of_one k s e = ap (λ (j : ℕ). item_of j s) e
-
--- the rules by kinds
-abbrev pub outcome_by : Tests → Cell → Cell → Cell → Item → Outcome
-outcome_by t b p a c =
-    cond (eqb p.kind 1 && eqb b.kind 0 && eqb a.kind 0 && t.both p.size) (Merged (Both (b.size + p.size + a.size)))
-    (cond (eqb p.kind 1 && eqb b.kind 0 && t.side p.size) (Merged (Before (b.size + p.size)))
-    (cond (eqb p.kind 1 && eqb a.kind 0 && t.side p.size) (Merged (After (p.size + a.size)))
-    (cond (eqb p.kind 1 && eqb a.kind 1 && not (eqb b.kind 0) && not (is_new c) && t.pair (p.size + a.size)) (Merged (Pair (p.size + a.size)))
-    Advance)))
-
-pub by_kinds : (t : Tests) (b p a : Cell) (c : Item) {o : Outcome} → outcome_by t b p a c ≡ o → o ≡ outcome_at t (cell_item b) (cell_item p) (cell_item a) c
-by_kinds t b p a c h = sym h ∙ simp (new_item, match_item, size_item)
+pub size_item : (k : Kind) (s : ℕ) → size (item_of k s) ≡ s
+size_item New s = refl
+size_item Match s = refl
+size_item Neither s = refl
 
 -- what is no match is passed by
 pub outcome_no_match : (t : Tests) (b p a c : Item) → is_match p ≡ false → outcome_at t b p a c ≡ Advance

@@ -1,9 +1,11 @@
 -- What a look of the pass comes to (section 4.10). The items of the list, the sizes that the merges take, the first of the five rules that applies; and
 -- an item as a kind and a size hold it.
 -- Assumes nothing.
-use Rattle.std.specs.Prelude.{ℕ, ◌+◌, ◌*◌, ◌≡◌, Bool, true, false, not, ◌&&◌, cond, eqb, ltb}
+use Rattle.std.specs.Prelude.{ℕ, ◌+◌, ◌*◌, ◌≡◌, Bool, true, false, not, ◌&&◌, cond, ltb}
 use Rattle.price.specs.declared.Rates.{Rates}
 use Rattle.rules.specs.declared.Cell.{Cell}
+use Rattle.rules.specs.declared.Kind.{Kind}
+use Rattle.rules.specs.declared.Kind.TheVariants.{New, Match, Neither}
 use Rattle.rules.specs.declared.Merge.TheVariants.{Both, Before, After, Pair}
 use Rattle.rules.specs.declared.Outcome.{Outcome}
 use Rattle.rules.specs.declared.Outcome.TheVariants.{Advance, Merged}
@@ -94,9 +96,11 @@ pub record Untouched (t : Tests) (s : ℕ) : Type 0 where
 
 -- ---- an item as a cell
 
--- kind 0 is new, 1 a match, any other neither
-abbrev pub item_of : ℕ → ℕ → Item
-item_of k s = cond (eqb k 0) (new s) (cond (eqb k 1) (match s) (neither s))
+-- by its kind
+abbrev pub item_of : Kind → ℕ → Item
+item_of New s = new s
+item_of Match s = match s
+item_of Neither s = neither s
 
 -- the item of a cell
 abbrev pub cell_item : Cell → Item

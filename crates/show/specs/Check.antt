@@ -2,10 +2,8 @@
 -- Assumes nothing.
 use Rattle.std.specs.Prelude.{ℕ, List, [], eqb, leb, ltb, length}
 use Rattle.format.specs.declared.Fault.TheVariants.{TooLong, ListLength, BlockLength, NoSuchRecord}
-use Rattle.format.specs.declared.Ruling.{Ruling}
-use Rattle.format.specs.declared.Answer.{Answer}
+use Rattle.format.specs.Refusal.{Ruling, Answer, need, ◌then◌, answer, length_only}
 use Rattle.format.specs.Limits.{store_most}
-use Rattle.format.specs.Refusal.{need, ◌then◌, answer, length_only}
 use Rattle.format.specs.Record.{list_fits, records_of}
 use Rattle.format.specs.Meaning.{stored}
 use Rattle.walk.specs.declared.Scope.{Scope}

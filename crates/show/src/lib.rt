@@ -12,33 +12,24 @@ ghost use Rattle.walk.specs.Walked.{walked};
 ghost use Rattle.show.specs.Check.{read_ruling, inputs_ruling, check_ruling, checked};
 ghost use Rattle.show.specs.Show.{where_of, lent, Lies, shown};
 
-use format::{Answer, Fault, Record};
+use format::{Answer, Fault, Record, need};
 use walk::{Scope, Walked};
 
 // Check 3 of a list, those of its records as far as the scope goes, and 10 of its stored block.
 pub fn read(list: &[u8], block: &[u8], store: &[u8], scope: Scope) -> Walked
     ensures { result ≡ walked (read_ruling scope list.now block.now store.now) (records_of list.now) }
 {
-    if !checks::list_fits(list) {
-        return walk::stopped(Fault::ListLength, 0);
-    }
-    let w = walk::walk(list, &list[0..0], store, scope);
-    let Walked::Through(t) = w else {
-        return w;
-    };
-    if block.len() != format::index(t.stored) {
-        return walk::stopped(Fault::BlockLength, 0);
-    }
-    w
+    need(checks::list_fits(list), Fault::ListLength)?;
+    let t = walk::walk(list, &[], store, scope)?;
+    need(block.len() == t.stored as usize, Fault::BlockLength)?;
+    Ok(t)
 }
 
 // Checks 2, 3, 4 to 7 and 10 of list, stored block and store.
 pub fn accept(list: &[u8], block: &[u8], store: &[u8]) -> Walked
     ensures { result ≡ walked (inputs_ruling list.now block.now store.now) (records_of list.now) }
 {
-    if format::STORE_MOST < store.len() {
-        return walk::stopped(Fault::TooLong, 0);
-    }
+    need(store.len() <= format::STORE_MOST, Fault::TooLong)?;
     read(list, block, store, Scope::Store)
 }
 
@@ -46,14 +37,9 @@ pub fn accept(list: &[u8], block: &[u8], store: &[u8]) -> Walked
 fn accept_place(list: &[u8], block: &[u8], store: &[u8], k: u32) -> Walked
     ensures { result ≡ walked (check_ruling list.now block.now store.now k) (records_of list.now) }
 {
-    let w = accept(list, block, store);
-    let Walked::Through(t) = w else {
-        return w;
-    };
-    if t.entries <= k {
-        return walk::stopped(Fault::NoSuchRecord, 0);
-    }
-    w
+    let t = accept(list, block, store)?;
+    need(k < t.entries, Fault::NoSuchRecord)?;
+    Ok(t)
 }
 
 // Check: accepted where list, block and store have no fault and there is a record k.
@@ -61,8 +47,8 @@ pub fn check(list: &[u8], block: &[u8], store: &[u8], k: u32) -> Answer
     ensures answered { result ≡ checked list.now block.now store.now k }
 {
     let w = accept_place(list, block, store, k);
-    let Walked::Through(_totals) = w else {
-        return Answer::Refused(walk::refusal_of(w));
+    let Ok(_totals) = w else {
+        return Err(w.unwrap_err());
     };
     format::length_only(0)
 }
@@ -74,12 +60,12 @@ pub fn part_of<'a>(record: Record, before: usize, block: &'a [u8], store: &'a [u
 {
     match record {
         Record::New(size) => {
-            let to = before + format::index(size);
+            let to = before + size as usize;
             &block[before..to]
         }
         Record::Match(size, source) => {
-            let from = format::index(source.address);
-            let to = from + format::index(size);
+            let from = source.address as usize;
+            let to = from + size as usize;
             &store[from..to]
         }
     }
@@ -90,10 +76,7 @@ pub fn stored_after(record: Record, before: usize) -> usize
     requires { before + stored («record» ∷ []) < 18446744073709551616 }
     ensures { result ≡ before + stored («record» ∷ []) }
 {
-    match record {
-        Record::New(size) => before + format::index(size),
-        Record::Match(_, _) => before,
-    }
+    before + format::stored_in(record) as usize
 }
 
 // The stored bytes before record k.
@@ -102,11 +85,8 @@ fn stored_before(list: &[u8], k: usize) -> usize
     ensures { result ≡ stored (take k (records_of list.now)) }
 {
     let mut sum = 0;
-    let mut i = 0;
-    while i < k {
-        let record = format::record_at(list, i);
-        sum = stored_after(record, sum);
-        i += 1;
+    for i in 0..k {
+        sum = stored_after(format::record_at(list, i), sum);
     }
     sum
 }
@@ -115,11 +95,10 @@ fn stored_before(list: &[u8], k: usize) -> usize
 pub fn show<'a>(list: &[u8], block: &'a [u8], store: &'a [u8], k: u32) -> &'a [u8]
     ensures part_lent { where_of result ≡ shown list.now block.entry store.entry k }
 {
-    let w = accept_place(list, block, store, k);
-    let Walked::Through(_totals) = w else {
-        return &block[0..0];
+    let Ok(_totals) = accept_place(list, block, store, k) else {
+        return &block[..0];
     };
-    let i = format::index(k);
+    let i = k as usize;
     let record = format::record_at(list, i);
     part_of(record, stored_before(list, i), block, store)
 }

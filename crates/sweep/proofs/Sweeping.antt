@@ -1,5 +1,6 @@
 -- Laws of the two sweeps: each record's turn is the path's, and what the sweep from the front makes of the hints is the least choice.
 -- Assumes nothing.
+use Rattle.std.specs.Prelude.{Some, None}
 use Prim.Native.Nat.{ℕ, suc, ◌+◌, ◌-◌, ◌*◌, ◌/◌, ◌≤◌, ◌<◌}
 use native.Mathlib.Omega.{arith}
 use native.Mathlib.Numerals.{add-one}
@@ -12,8 +13,7 @@ use Rattle.format.specs.declared.Record.{Record}
 use Rattle.format.specs.Record.{row_at, record_of, records_of, records_from}
 use Rattle.format.proofs.Rows.{records_from_back, records_from_none, records_from_all, length_records_of}
 use Rattle.price.specs.declared.Rates.{Rates}
-use Rattle.join.specs.declared.Open.{Open}
-use Rattle.join.specs.declared.Open.TheVariants.{No, One}
+use Rattle.join.specs.Open.{Open}
 use Rattle.choice.specs.Choice.{Bit, keep, store, bit_byte, bit_bytes, least}
 use Rattle.choice.specs.Path.{pick_bit, follow, after, step}
 use Rattle.choice.proofs.Path.{follow_pick}
@@ -28,7 +28,7 @@ use Rattle.sweep.specs.Sweep.{hint_byte, hint_bytes, before_at, best_of, hints_o
 pub records_end : (list : List ℕ) (n : ℕ) → records_from list n n ≡ []
 records_end list n = records_from_none list n n (omega arith)
 
-before_next : (list : List ℕ) (i : ℕ) → 0 < i → before_at list i ≡ One (record_of (row_at list (i - 1)))
+before_next : (list : List ℕ) (i : ℕ) → 0 < i → before_at list i ≡ Some (record_of (row_at list (i - 1)))
 before_next list i h = let some : i ≡ 0 → ⊥ = λ e. omega arith in rw (ne_eqb i 0 some)
 
 -- what the sweep has left before record i
@@ -88,15 +88,15 @@ length_hints rates g (r ∷ rs) = ap suc (length_hints rates (after r) rs)
 
 -- the sweep from the front over what the sweep from the rear left is the least choice
 pub forwards_least : (rates : Rates) (list t : List ℕ) → let n = length list / 12 in
-    forwards n 0 (hint_bytes (hints_of rates (left_by No) (records_from list n 0)) ++ t) ≡ bit_bytes (least rates (records_of list)) ++ t
+    forwards n 0 (hint_bytes (hints_of rates (left_by None) (records_from list n 0)) ++ t) ≡ bit_bytes (least rates (records_of list)) ++ t
 forwards_least rates list t =
     let rs = records_of list in
-    let hs = hints_of rates (left_by No) rs in
-    let e : length list / 12 ≡ length hs = sym (length_hints rates (left_by No) rs ∙ length_records_of list) in
+    let hs = hints_of rates (left_by None) rs in
+    let e : length list / 12 ≡ length hs = sym (length_hints rates (left_by None) rs ∙ length_records_of list) in
     rw (← records_from_all list)
     (ap (λ (m : ℕ). forwards m 0 (hint_bytes hs ++ t)) e
     ∙ forwards_follow keep hs t
-    ∙ ap (λ (c : List Bit). bit_bytes c ++ t) (follow_pick after (step rates) (left_by No) rs keep ∙ sym (least_pick rates rs)))
+    ∙ ap (λ (c : List Bit). bit_bytes c ++ t) (follow_pick after (step rates) (left_by None) rs keep ∙ sym (least_pick rates rs)))
 
 -- what both sweeps leave
 pub least_in : (rates : Rates) (list before middle after : List ℕ) (r : ℕ) → Back rates list (length list / 12) before middle r → after ≡ forwards (length list / 12) 0 middle → LeastIn rates list before after r
@@ -107,5 +107,5 @@ least_in rates list before middle after r b e =
       area =
           e ∙ ap (forwards (length list / 12) 0) b.area ∙ forwards_least rates list (drop (length list / 12) before)
           ∙ ap (λ (k : ℕ). bit_bytes (least rates (records_of list)) ++ drop k before) (sym n);
-      cost_is = b.least_cost ∙ ap (λ (x : List Record). best_of rates x No) (sym (records_from_all list)) ∙ sym (least_cost rates (records_of list));
+      cost_is = b.least_cost ∙ ap (λ (x : List Record). best_of rates x None) (sym (records_from_all list)) ∙ sym (least_cost rates (records_of list));
     }

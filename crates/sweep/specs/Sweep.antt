@@ -1,14 +1,13 @@
 -- The two sweeps over plain lists, and what they leave: the least choice and its cost.
 -- Assumes nothing.
-use Rattle.std.specs.Prelude.{ℕ, zero, suc, ◌+◌, ◌-◌, ◌*◌, ◌/◌, ◌%◌, ◌≤◌, ◌≡◌, cond, List, [], ◌∷◌, ◌++◌, eqb, length, drop}
+use Rattle.std.specs.Prelude.{ℕ, zero, suc, ◌+◌, ◌-◌, ◌*◌, ◌/◌, ◌%◌, ◌≤◌, ◌≡◌, cond, List, [], ◌∷◌, ◌++◌, eqb, length, drop, Some, None}
 use Rattle.format.specs.declared.Record.{Record}
 use Rattle.format.specs.Limits.{records_most}
 use Rattle.format.specs.Record.{row_at, record_of, records_of, records_from}
 use Rattle.price.specs.declared.Rates.{Rates}
 use Rattle.price.specs.Price.{RatesFit}
 use Rattle.area.specs.Area.{over}
-use Rattle.join.specs.declared.Open.{Open}
-use Rattle.join.specs.declared.Open.TheVariants.{No, One}
+use Rattle.join.specs.Open.{Open}
 use Rattle.choice.specs.Choice.{Bit, bit_byte, bit_bytes, cost_of, least}
 use Rattle.choice.specs.Path.{best, hints, after, step}
 use Rattle.weigh.specs.Weigh.{left_by}
@@ -23,7 +22,7 @@ hint_bytes (h ∷ hs) = hint_byte h ∷ hint_bytes hs
 
 -- the record before record i of a list, if there is one
 abbrev pub before_at : List ℕ → ℕ → Open
-before_at list i = cond (eqb i 0) No (One (record_of (row_at list (i - 1))))
+before_at list i = cond (eqb i 0) None (Some (record_of (row_at list (i - 1))))
 
 -- the least cost of the records, after the state o
 abbrev pub best_of : Rates → List Record → Open → ℕ
@@ -42,8 +41,8 @@ pub record Room (rates : Rates) (list : List ℕ) (n : ℕ) (choice : List ℕ) 
 
 -- after the sweep from the rear
 pub record Back (rates : Rates) (list : List ℕ) (n : ℕ) (before after : List ℕ) (r : ℕ) : Type 0 where
-  pub least_cost : r ≡ best_of rates (records_from list n 0) No
-  pub area : after ≡ hint_bytes (hints_of rates (left_by No) (records_from list n 0)) ++ drop n before
+  pub least_cost : r ≡ best_of rates (records_from list n 0) None
+  pub area : after ≡ hint_bytes (hints_of rates (left_by None) (records_from list n 0)) ++ drop n before
 
 -- the bit after the bit b, where the two to choose from are in the byte h
 abbrev pub next_bit : ℕ → ℕ → ℕ

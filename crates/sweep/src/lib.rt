@@ -17,21 +17,20 @@ fn before_at(list: &[u8], i: usize) -> Open
     ensures { result ≡ before_at list.now i }
 {
     if i == 0 {
-        return Open::No;
+        None
+    } else {
+        Some(format::record_at(list, i - 1))
     }
-    Open::One(format::record_at(list, i - 1))
 }
 
-// The sweep from the rear: the two bits of each record, and the least cost of all.
+// The sweep from the rear: the two bits of each record, and the least cost of all. n is the number of records, as the lent choice area may be longer.
 fn backwards(rates: Rates, list: &[u8], n: usize, choice: &mut [u8]) -> Cost
     requires { Room rates list.now n choice.old }
     ensures { Back rates list.now n choice.old choice.new result.0 }
 {
-    let mut i = n;
     let mut kept = Cost(0);
     let mut stored = Cost(0);
-    while 0 < i {
-        i -= 1;
+    for i in (0..n).rev() {
         let t = weigh::weigh(
             rates,
             before_at(list, i),
@@ -46,14 +45,11 @@ fn backwards(rates: Rates, list: &[u8], n: usize, choice: &mut [u8]) -> Cost
     kept
 }
 
-// The bit after the bit b, of the two in h.
+// The bit after the bit b, of the two in h: numbers and not enums, as the lent choice area is the only memory for both.
 fn next_bit(b: u8, h: u8) -> u8
     ensures { result ≡ next_bit b h }
 {
-    if b == 0 {
-        return h % 2;
-    }
-    h / 2 % 2
+    if b == 0 { h % 2 } else { h / 2 % 2 }
 }
 
 // The sweep from the front: of each pair of bits, the one that follows from the bit before.
@@ -61,12 +57,10 @@ fn settle(n: usize, choice: &mut [u8])
     requires { n ≤ length choice.old }
     ensures { choice.new ≡ forwards n 0 choice.old }
 {
-    let mut i = 0;
     let mut b: u8 = 0;
-    while i < n {
+    for i in 0..n {
         b = next_bit(b, choice[i]);
         choice[i] = b;
-        i += 1;
     }
 }
 

@@ -5,17 +5,16 @@
 ghost use Rattle.demand.specs.Tidying.{TwoCalls};
 
 use demand::TwiceTidied;
-use format::Answer;
 
 // Tidy and, where that is accepted, tidy of the list that it wrote.
 pub fn tidy_twice(list: &[u8], store: &[u8], first: &mut [u8], second: &mut [u8]) -> TwiceTidied
     ensures two_calls { TwoCalls list.now store.now first.old second.old result first.new second.new }
 {
     let once = loose::tidy(list, store, first);
-    let Answer::Accepted(figures) = once else {
+    let Ok(figures) = once else {
         return TwiceTidied { once, again: once };
     };
-    let n = 12 * format::index(figures.entries);
-    let again = loose::tidy(&first[0..n], store, second);
+    let n = 12 * figures.entries as usize;
+    let again = loose::tidy(&first[..n], store, second);
     TwiceTidied { once, again }
 }

@@ -1,6 +1,4 @@
 pub mod Cutting
-pub mod Parts
-pub mod Chunking
 pub mod Volumes
 pub mod Building
 pub mod Adding

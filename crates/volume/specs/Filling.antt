@@ -1,22 +1,11 @@
--- What the rebuilding of a record, of a chunk and of a volume in one area asks, and what it leaves.
+-- What the rebuilding of a chunk and of a volume in one area asks, and what it leaves.
 -- Assumes nothing.
-use Rattle.std.specs.Prelude.{ℕ, ◌+◌, ◌≤◌, ◌≡◌, List, [], ◌∷◌, ◌++◌, length, take, drop}
-use Rattle.format.specs.declared.Record.{Record}
+use Rattle.std.specs.Prelude.{ℕ, ◌+◌, ◌≤◌, ◌≡◌, List, [], ◌∷◌, ◌++◌, length, take}
 use Rattle.format.specs.Record.{records_of}
-use Rattle.format.specs.Meaning.{size_of, whole, stored, rebuilt}
+use Rattle.format.specs.Meaning.{whole, stored}
 use Rattle.format.specs.WellFormed.{Inside}
 use Rattle.area.specs.Area.{pasted, over}
 use Rattle.volume.specs.Volume.{index_rows_of, lists_length, blocks_length, Chunk, chunk, chunks_of, chunk_bytes, volume_of}
-
--- a record at `out`, where `used` stored bytes come before it: its bytes are there, and there is room
-pub record PartReady (r : Record) (used : ℕ) (block area : List ℕ) (out : ℕ) : Type 0 where
-  pub inside : Inside (take out area) (r ∷ [])
-  pub in_block : used + stored (r ∷ []) ≤ length block
-  pub room : out + size_of r ≤ length area
-
--- the bytes that it stands for
-abbrev pub part_bytes : Record → ℕ → List ℕ → List ℕ → List ℕ
-part_bytes r used block st = rebuilt (r ∷ []) (drop used block) st
 
 -- a chunk behind the first `at` bytes: its matches lie in them, the block is as long as the new sizes, and there is room
 pub record ChunkReady (list block area : List ℕ) (at : ℕ) : Type 0 where

@@ -1,5 +1,6 @@
 -- What a walk that finds no fault has shown of the records, and that it finds none in records of which this holds.
 -- Assumes nothing.
+use Rattle.std.specs.Prelude.{Ok}
 use Prim.Native.Nat.{ℕ, ◌+◌, ◌≤◌}
 use native.Mathlib.Omega.{arith}
 use mathlib.Core.Path.{◌≡◌, refl}
@@ -11,7 +12,6 @@ use borrow.Author.Tests.{leb-true}
 use Rattle.format.specs.declared.Row.{Row}
 use Rattle.format.specs.declared.Record.{Record}
 use Rattle.format.specs.declared.Record.TheVariants.{New, Match}
-use Rattle.format.specs.declared.Ruling.TheVariants.{Fine}
 use Rattle.format.specs.Limits.{volume_most}
 use Rattle.format.specs.Record.{is_new, source_of, records}
 use Rattle.format.specs.Refusal.{need}
@@ -40,11 +40,11 @@ abbrev Passes : List Check → Seen → Row → Type 0
 Passes [] s r = Unit {0}
 Passes (c ∷ cs) s r = (c.holds s r ≡ true) × Passes cs s r
 
-passes_of_fine : (cs : List Check) (s : Seen) (r : Row) → judged cs s r ≡ Fine → Passes cs s r
+passes_of_fine : (cs : List Check) (s : Seen) (r : Row) → judged cs s r ≡ Ok tt → Passes cs s r
 passes_of_fine [] s r e = tt
 passes_of_fine (c ∷ cs) s r e = let k = holds_of_fine c cs s r e in (k.0, passes_of_fine cs s r k.1)
 
-fine_of_passes : (cs : List Check) (s : Seen) (r : Row) → Passes cs s r → judged cs s r ≡ Fine
+fine_of_passes : (cs : List Check) (s : Seen) (r : Row) → Passes cs s r → judged cs s r ≡ Ok tt
 fine_of_passes [] s r h = refl
 fine_of_passes (c ∷ cs) s r h = then_of_fine (need (c.holds s r) c.fault s.place) (judged cs s r) (rw h.0) (fine_of_passes cs s r h.1)
 
@@ -60,13 +60,13 @@ each_split : (cs : List Check) (s : Seen) (r : Row) (rs : List Row) → Each cs 
 each_split [] s r rs h = (tt, tt)
 each_split (c ∷ cs) s r rs h = let k = each_split cs s r rs h.1 in ((h.0.0, k.0), (h.0.1, k.1))
 
-pub each_of_fine : (cs : List Check) (s : Seen) (rs : List Row) → walk_on cs s rs ≡ Fine → Each cs s rs
+pub each_of_fine : (cs : List Check) (s : Seen) (rs : List Row) → walk_on cs s rs ≡ Ok tt → Each cs s rs
 each_of_fine cs s [] e = each_none cs s
 each_of_fine cs s (r ∷ rs) e =
     let k = fine_of_then (judged cs s r) (walk_on cs (next s r) rs) e in
     each_cons cs s r rs (passes_of_fine cs s r k.0) (each_of_fine cs (next s r) rs k.1)
 
-pub fine_of_each : (cs : List Check) (s : Seen) (rs : List Row) → Each cs s rs → walk_on cs s rs ≡ Fine
+pub fine_of_each : (cs : List Check) (s : Seen) (rs : List Row) → Each cs s rs → walk_on cs s rs ≡ Ok tt
 fine_of_each cs s [] h = refl
 fine_of_each cs s (r ∷ rs) h =
     let k = each_split cs s r rs h in

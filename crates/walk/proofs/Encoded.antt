@@ -1,5 +1,6 @@
 -- A list that is written and well formed passes the walk again, check by check.
 -- Assumes nothing.
+use Rattle.std.specs.Prelude.{Ok}
 use Prim.Native.Nat.{ℕ, ◌+◌, ◌≤◌}
 use native.Mathlib.Omega.{arith}
 use mathlib.Core.Path.{◌≡◌, refl}
@@ -11,7 +12,6 @@ use lib.Seq.{drop-drop}
 use borrow.Author.Tests.{le-leb}
 use Rattle.format.specs.declared.Record.{Record}
 use Rattle.format.specs.declared.Record.TheVariants.{New, Match}
-use Rattle.format.specs.declared.Ruling.TheVariants.{Fine}
 use Rattle.format.specs.Limits.{version_most, volume_most}
 use Rattle.format.specs.Record.{mark_byte, encode}
 use Rattle.format.specs.Meaning.{whole}
@@ -67,27 +67,27 @@ at_front : (l : List Record) → front.fresh ≡ true → NotNew l
 at_front l e = absurd (let z : ◌≡◌ {A = ℕ} 0 1 = cc in omega arith)
 
 -- in measure
-pub walk_sizes : (l : List Record) → Sized l → Apart l → whole l ≤ version_most → walk_ruling (checks scope.Sizes [] []) (encode l) ≡ Fine
+pub walk_sizes : (l : List Record) → Sized l → Apart l → whole l ≤ version_most → walk_ruling (checks scope.Sizes [] []) (encode l) ≡ Ok tt
 walk_sizes l h k w =
     rw (rows_encode l)
     (fine_of_each (checks scope.Sizes [] []) front (rows_for l) (four_of_sized front l h, (five_of_apart front l (at_front l) k, (six_of_whole version_most front l (omega arith), tt))))
 
 -- in check, show, rebuild and compare
-pub walk_store : (st : List ℕ) (l : List Record) → Sized l → Apart l → Inside st l → whole l ≤ version_most → walk_ruling (checks scope.Store [] st) (encode l) ≡ Fine
+pub walk_store : (st : List ℕ) (l : List Record) → Sized l → Apart l → Inside st l → whole l ≤ version_most → walk_ruling (checks scope.Store [] st) (encode l) ≡ Ok tt
 walk_store st l h k i w =
     rw (rows_encode l)
     (fine_of_each (checks scope.Store [] st) front (rows_for l)
     (four_of_sized front l h, (five_of_apart front l (at_front l) k, (six_of_whole version_most front l (omega arith), (seven_of_inside st front l i, tt)))))
 
 -- in check_loose and tidy
-pub walk_loose : (st : List ℕ) (l : List Record) → Sized l → Inside st l → whole l ≤ version_most → walk_ruling (checks scope.Loose [] st) (encode l) ≡ Fine
+pub walk_loose : (st : List ℕ) (l : List Record) → Sized l → Inside st l → whole l ≤ version_most → walk_ruling (checks scope.Loose [] st) (encode l) ≡ Ok tt
 walk_loose st l h i w =
     rw (rows_encode l)
     (fine_of_each (checks scope.Loose [] st) front (rows_for l) (four_of_sized front l h, (six_of_whole version_most front l (omega arith), (seven_of_inside st front l i, tt))))
 
 -- in rebuild_volume, behind the bytes of st
 pub walk_chunk : (st : List ℕ) (l : List Record) → Sized l → Apart l → Inside st l → whole l ≤ version_most → length st + whole l ≤ volume_most
-    → walk_ruling (checks (scope.Chunk (length st)) [] []) (encode l) ≡ Fine
+    → walk_ruling (checks (scope.Chunk (length st)) [] []) (encode l) ≡ Ok tt
 walk_chunk st l h k i w m =
     rw (rows_encode l)
     (fine_of_each (checks (scope.Chunk (length st)) [] []) front (rows_for l) (
@@ -102,7 +102,7 @@ walk_chunk st l h k i w m =
     ))
 
 -- in partition and pass
-pub walk_encode : (v st : List ℕ) (l : List Record) → WellFormed st l v → walk_ruling (checks scope.Version v st) (encode l) ≡ Fine
+pub walk_encode : (v st : List ℕ) (l : List Record) → WellFormed st l v → walk_ruling (checks scope.Version v st) (encode l) ≡ Ok tt
 walk_encode v st l w =
     rw (rows_encode l)
     (fine_of_each (checks scope.Version v st) front (rows_for l) (

@@ -1,5 +1,6 @@
 -- One record's checks, as the code makes them: by its kind, and by what the call has; and what a record that passes them keeps to.
 -- Assumes nothing.
+use Rattle.std.specs.Prelude.{Ok, Err}
 use Prim.Native.Nat.{ℕ, ◌+◌, ◌≤◌, ◌<◌}
 use native.Mathlib.Omega.{arith}
 use mathlib.Core.Path.{◌≡◌, refl, sym, ◌∙◌, ap}
@@ -10,10 +11,8 @@ use borrow.Author.Tests.{leb-true, le-leb, lt-leb}
 use Rattle.format.specs.declared.Fault.TheVariants.{Malformed, Adjacent, Sizes, OutsideStore, Mismatch, OutsideEarlier, VolumeTooLong}
 use Rattle.format.specs.declared.Row.{Row}
 use Rattle.format.specs.declared.Refusal.{Refusal}
-use Rattle.format.specs.declared.Ruling.{Ruling}
-use Rattle.format.specs.declared.Ruling.TheVariants.{Fine, Stop}
+use Rattle.format.specs.Refusal.{Ruling, need, refuse, ◌then◌}
 use Rattle.format.specs.Limits.{version_most}
-use Rattle.format.specs.Refusal.{need, refuse, ◌then◌}
 use Rattle.format.specs.Record.{is_new, well_formed}
 use Rattle.format.proofs.Rulings.{then_fine, fine_of_then, true_of_need, both_of_and}
 use Rattle.words.specs.Same.{same_bytes}
@@ -30,9 +29,9 @@ limit_most scope.Version v h = h
 limit_most scope.LooseVersion v h = h
 limit_most (scope.Chunk n) v h = omega arith
 
-pub holds_of_fine : (c : Check) (cs : List Check) (s : Seen) (r : Row) → judged (c ∷ cs) s r ≡ Fine → (c.holds s r ≡ true) × (judged cs s r ≡ Fine)
+pub holds_of_fine : (c : Check) (cs : List Check) (s : Seen) (r : Row) → judged (c ∷ cs) s r ≡ Ok tt → (c.holds s r ≡ true) × (judged cs s r ≡ Ok tt)
 holds_of_fine c cs s r e =
-    let k : (need (c.holds s r) c.fault s.place ≡ Fine) × (judged cs s r ≡ Fine) = fine_of_then (need (c.holds s r) c.fault s.place) (judged cs s r) e in
+    let k : (need (c.holds s r) c.fault s.place ≡ Ok tt) × (judged cs s r ≡ Ok tt) = fine_of_then (need (c.holds s r) c.fault s.place) (judged cs s r) e in
     (true_of_need (c.holds s r) c.fault s.place k.0, k.1)
 
 -- a match beside a store of n bytes
@@ -50,7 +49,7 @@ module _ (s : Seen) (r : Row) (v st : List ℕ) where
   judged_version e x y h k = rw (e, h, k) (ap (λ (q : Ruling). need x OutsideStore s.place then q) (then_fine (need y Mismatch s.place)))
 
   -- a new record that passes 16 passes all that is beyond
-  pub judged_new : (x : Scope) → judged (together x) s r ≡ Fine → is_new r ≡ true → judged (beyond x v st) s r ≡ Fine
+  pub judged_new : (x : Scope) → judged (together x) s r ≡ Ok tt → is_new r ≡ true → judged (beyond x v st) s r ≡ Ok tt
   judged_new scope.Sizes k e = refl
   judged_new scope.Store k e = rw e
   judged_new scope.Loose k e = rw e
@@ -59,7 +58,7 @@ module _ (s : Seen) (r : Row) (v st : List ℕ) where
   judged_new (scope.Chunk n) k e = rw ((holds_of_fine (sixteen n) [] s r k).0, e)
 
   -- where check 16 fails, it is what is said
-  pub judged_together : {q : Refusal} (x : Scope) → judged (together x) s r ≡ Stop q → judged (beyond x v st) s r ≡ Stop q
+  pub judged_together : {q : Refusal} (x : Scope) → judged (together x) s r ≡ Err q → judged (beyond x v st) s r ≡ Err q
   judged_together scope.Sizes k = cc
   judged_together scope.Store k = cc
   judged_together scope.Loose k = cc
@@ -77,7 +76,7 @@ module _ (s : Seen) (r : Row) (v st : List ℕ) where
       go true k = cc
       go false k = refl
 
-  after_five : (t : Bool) (cs : List Check) → judged (cond t (five ∷ []) [] ++ cs) s r ≡ Fine → judged cs s r ≡ Fine
+  after_five : (t : Bool) (cs : List Check) → judged (cond t (five ∷ []) [] ++ cs) s r ≡ Ok tt → judged cs s r ≡ Ok tt
   after_five true cs e = (holds_of_fine five cs s r e).1
   after_five false cs e = e
 
@@ -85,25 +84,25 @@ module _ (s : Seen) (r : Row) (v st : List ℕ) where
     abbrev later : List Check
     later = six (limit_of x v) ∷ beyond x v st
 
-    pub judged_malformed : well_formed r ≡ false → judged (checks x v st) s r ≡ Stop (refuse Malformed s.place)
+    pub judged_malformed : well_formed r ≡ false → judged (checks x v st) s r ≡ Err (refuse Malformed s.place)
     judged_malformed e = rw e
 
     module _ (e : well_formed r ≡ true) where
-      pub judged_adjacent : (is_new r && s.fresh) && tight x ≡ true → judged (checks x v st) s r ≡ Stop (refuse Adjacent s.place)
+      pub judged_adjacent : (is_new r && s.fresh) && tight x ≡ true → judged (checks x v st) s r ≡ Err (refuse Adjacent s.place)
       judged_adjacent f = let k = both_of_and (is_new r && s.fresh) (tight x) f in rw (e, k.1, k.0)
 
       module _ (f : (is_new r && s.fresh) && tight x ≡ false) where
         judged_later : judged (checks x v st) s r ≡ judged later s r
         judged_later = rw e (apart_five (tight x) later f)
 
-        pub judged_sizes : limit_of x v < s.offset + r.size → judged (checks x v st) s r ≡ Stop (refuse Sizes s.place)
+        pub judged_sizes : limit_of x v < s.offset + r.size → judged (checks x v st) s r ≡ Err (refuse Sizes s.place)
         judged_sizes g = judged_later ∙ rw (lt-leb _ _ g)
 
         pub judged_beyond : s.offset + r.size ≤ limit_of x v → judged (checks x v st) s r ≡ judged (beyond x v st) s r
         judged_beyond g = judged_later ∙ rw (le-leb _ _ g)
 
     -- a record that passes stays within the limit
-    pub sizes_of_fine : judged (checks x v st) s r ≡ Fine → s.offset + r.size ≤ limit_of x v
+    pub sizes_of_fine : judged (checks x v st) s r ≡ Ok tt → s.offset + r.size ≤ limit_of x v
     sizes_of_fine e =
         let a = holds_of_fine four (neighbours x ++ later) s r e in
         leb-true (s.offset + r.size) (limit_of x v) (holds_of_fine (six (limit_of x v)) (beyond x v st) s r (after_five (tight x) later a.1)).0

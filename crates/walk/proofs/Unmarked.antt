@@ -6,8 +6,7 @@ use mathlib.Core.Bool.{Bool}
 use mathlib.Core.List.{List, [], ◌∷◌, ◌++◌}
 use Rattle.format.specs.declared.Fault.TheVariants.{Malformed}
 use Rattle.format.specs.declared.Row.{Row}
-use Rattle.format.specs.declared.Ruling.{Ruling}
-use Rattle.format.specs.Refusal.{need, ◌then◌}
+use Rattle.format.specs.Refusal.{Ruling, need, ◌then◌}
 use Rattle.format.specs.Marks.{unmarked}
 use Rattle.format.specs.Record.{rows_of}
 use Rattle.format.proofs.Unmarking.{bare_row, bare_rows, rows_unmarked, formed_bare}

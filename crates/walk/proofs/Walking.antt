@@ -1,5 +1,6 @@
 -- The walk from record i on, one record further, and at its end; and the totals that go with it.
 -- Assumes nothing.
+use Rattle.std.specs.Prelude.{Ok, Err}
 use Prim.Native.Nat.{ℕ, ◌+◌, ◌-◌, ◌/◌, ◌≤◌, ◌<◌}
 use native.Mathlib.Omega.{arith}
 use mathlib.Core.Path.{◌≡◌, refl, ◌∙◌, ap}
@@ -8,7 +9,6 @@ use mathlib.Core.List.{List, [], ◌∷◌}
 use lib.ListN.{length}
 use Rattle.format.specs.declared.Row.{Row}
 use Rattle.format.specs.declared.Refusal.{Refusal}
-use Rattle.format.specs.declared.Ruling.TheVariants.{Fine, Stop}
 use Rattle.format.specs.Record.{from, row_at, is_new, records, records_of}
 use Rattle.format.specs.Meaning.{whole, stored}
 use Rattle.format.proofs.Rows.{from_next, from_none, size_record, stored_record, length_records_of}
@@ -42,7 +42,7 @@ module _ (cs : List Check) (list : List ℕ) where
       }
 
   module _ (n i : ℕ) (s : Seen) (so_far : SoFar cs list n i s) where
-    pub so_far_next : i < n → judged cs s (row_at list i) ≡ Fine → SoFar cs list n (i + 1) (next s (row_at list i))
+    pub so_far_next : i < n → judged cs s (row_at list i) ≡ Ok tt → SoFar cs list n (i + 1) (next s (row_at list i))
     so_far_next h e =
         let r : Row = row_at list i in
         let f : rest list n i ≡ r ∷ rest list n (i + 1) = from_next (row_at list) i n h in
@@ -67,10 +67,10 @@ module _ (cs : List Check) (list : List ℕ) where
         least true h = omega arith
         least false h = omega arith
 
-    pub so_far_stop : (x : Refusal) → i < n → judged cs s (row_at list i) ≡ Stop x → walk_ruling cs list ≡ Stop x
+    pub so_far_stop : (x : Refusal) → i < n → judged cs s (row_at list i) ≡ Err x → walk_ruling cs list ≡ Err x
     so_far_stop x h e = so_far.ruling ∙ rw (from_next (row_at list) i n h, e)
 
-    pub so_far_end : n ≡ length list / 12 → i ≡ n → (walk_ruling cs list ≡ Fine) × (◌≡◌ {A = Totals} (record { entries = s.place; stored = s.stored; whole = s.offset }) (totals (records_of list)))
+    pub so_far_end : n ≡ length list / 12 → i ≡ n → (walk_ruling cs list ≡ Ok tt) × (◌≡◌ {A = Totals} (record { entries = s.place; stored = s.stored; whole = s.offset }) (totals (records_of list)))
     so_far_end k h =
         let f : rest list n i ≡ [] = from_none (row_at list) i n (omega arith) in
         let w : whole (records_of list) ≡ s.offset = so_far.whole_is ∙ rw f (omega arith) in

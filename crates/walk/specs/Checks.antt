@@ -1,13 +1,11 @@
 -- Checks 4 to 8 (clauses 5.4 to 5.8), and 15 and 16 of a volume's chunk, made record by record: which a call makes, and what the first that fails says.
 -- Assumes nothing.
-use Rattle.std.specs.Prelude.{ℕ, ◌+◌, Bool, true, false, not, ◌&&◌, ◌||◌, cond, List, [], ◌∷◌, ◌++◌, leb, length, take, drop}
+use Rattle.std.specs.Prelude.{ℕ, ◌+◌, Bool, true, false, not, ◌&&◌, ◌||◌, cond, List, [], ◌∷◌, ◌++◌, leb, length, take, drop, Ok}
 use Rattle.format.specs.declared.Fault.{Fault}
 use Rattle.format.specs.declared.Fault.TheVariants.{Malformed, Adjacent, Sizes, OutsideStore, Mismatch, OutsideEarlier, VolumeTooLong}
 use Rattle.format.specs.declared.Row.{Row}
-use Rattle.format.specs.declared.Ruling.{Ruling}
-use Rattle.format.specs.declared.Ruling.TheVariants.{Fine}
+use Rattle.format.specs.Refusal.{Ruling, need, ◌then◌}
 use Rattle.format.specs.Limits.{version_most, volume_most}
-use Rattle.format.specs.Refusal.{need, ◌then◌}
 use Rattle.format.specs.Record.{is_new, well_formed, rows_of}
 use Rattle.words.specs.Same.{same_bytes}
 use Rattle.walk.specs.declared.Seen.{Seen}
@@ -93,7 +91,7 @@ checks x v st = four ∷ neighbours x ++ six (limit_of x v) ∷ beyond x v st
 
 -- one record: the first check that fails, at the record's place
 abbrev pub judged : List Check → Seen → Row → Ruling
-judged [] s r = Fine
+judged [] s r = Ok tt
 judged (c ∷ cs) s r = need (c.holds s r) c.fault s.place then judged cs s r
 
 -- what is seen after a record
@@ -102,7 +100,7 @@ next s r = record { place = s.place + 1; offset = s.offset + r.size; stored = co
 
 -- the records one after the other
 abbrev pub walk_on : List Check → Seen → List Row → Ruling
-walk_on cs s [] = Fine
+walk_on cs s [] = Ok tt
 walk_on cs s (r ∷ rs) = judged cs s r then walk_on cs (next s r) rs
 
 abbrev pub front : Seen

@@ -1,5 +1,6 @@
 -- The better way, by the tests that the code makes, and both ways with a record.
 -- Assumes nothing.
+use Rattle.std.specs.Prelude.{Some, None}
 use Prim.Native.Nat.{ℕ, ◌+◌, ◌*◌, ◌≤◌, ◌<◌}
 use native.Mathlib.Omega.{arith}
 use mathlib.Core.Path.{◌≡◌, refl}
@@ -7,8 +8,7 @@ use mathlib.Core.Bool.{Bool, true, false, cond}
 use borrow.Author.Tests.{le-leb, lt-leb}
 use Rattle.format.specs.declared.Record.{Record}
 use Rattle.price.specs.declared.Rates.{Rates}
-use Rattle.join.specs.declared.Open.{Open}
-use Rattle.join.specs.declared.Open.TheVariants.{No, One}
+use Rattle.join.specs.Open.{Open}
 use Rattle.choice.specs.Choice.{keep, store, only, either, freedom}
 use Rattle.choice.specs.Path.{step, step_most}
 use Rattle.weigh.specs.declared.Way.{Way}
@@ -34,8 +34,8 @@ module _ (rates : Rates) (o : Open) (r : Record) (kept stored k n : ℕ) (ek : k
   better_store f h = record { is = rw (← ek, ← en, f, lt-leb k n h); cost_most = λ m a b. omega arith; bit_most = omega arith }
 
 left_keep : (o : Open) → left_by o keep ≡ o
-left_keep No = refl
-left_keep (One r) = refl
+left_keep None = refl
+left_keep (Some r) = refl
 
 -- both ways with a record, after the one before it, kept or stored
 pub turned_of : (rates : Rates) (o : Open) (r : Record) (kept stored : ℕ) (k s : Way) → Better rates o r kept stored k → Better rates (left_by o store) r kept stored s

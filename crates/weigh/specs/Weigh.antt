@@ -1,10 +1,9 @@
 -- The better way with one record, and what it comes to after the one before it is kept, and after that is stored.
 -- Assumes nothing.
-use Rattle.std.specs.Prelude.{ℕ, ◌+◌, ◌*◌, ◌≤◌, ◌≡◌}
+use Rattle.std.specs.Prelude.{ℕ, ◌+◌, ◌*◌, ◌≤◌, ◌≡◌, Some, None}
 use Rattle.format.specs.declared.Record.{Record}
 use Rattle.price.specs.declared.Rates.{Rates}
-use Rattle.join.specs.declared.Open.{Open}
-use Rattle.join.specs.declared.Open.TheVariants.{No, One}
+use Rattle.join.specs.Open.{Open}
 use Rattle.choice.specs.Choice.{Bit, keep, store, bit_byte, freedom, chosen_record}
 use Rattle.choice.specs.Path.{decide, at, step, step_most}
 use Rattle.weigh.specs.declared.Turn.{Turn}
@@ -26,8 +25,8 @@ pub record Better (rates : Rates) (o : Open) (r : Record) (kept stored : ℕ) (w
 
 -- the record before, as its bit leaves it
 abbrev pub left_by : Open → Bit → Open
-left_by No b = No
-left_by (One r) b = One (chosen_record b r)
+left_by None b = None
+left_by (Some r) b = Some (chosen_record b r)
 
 -- one record of the sweep from the rear, after the record before it: what it comes to where that one is kept, and where it is stored
 abbrev pub turned : Rates → Open → Record → ℕ → ℕ → Turn

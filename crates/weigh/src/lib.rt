@@ -13,15 +13,15 @@ use format::Record;
 use join::Open;
 use price::{Cost, Rates};
 
-// The better way with a record: the least cost from it on, and its bit.
-#[derive(Clone, Copy)]
+// The better way with a record: the least cost from it on, and its bit: a number, as two of them make a hint.
+#[derive(Clone, Copy, Debug, PartialEq, Eq)]
 pub struct Way {
     pub cost: Cost,
     pub bit: u8,
 }
 
-// What a record comes to: the least costs from it on, after a kept and after a stored record, and its two bits.
-#[derive(Clone, Copy)]
+// What a record comes to: the least costs from it on, after a kept and after a stored record, and its two bits as one number, which goes into the lent choice area.
+#[derive(Clone, Copy, Debug, PartialEq, Eq)]
 pub struct Turn {
     pub kept: Cost,
     pub stored: Cost,
@@ -45,7 +45,7 @@ fn better(rates: Rates, before: Open, record: Record, kept: Cost, stored: Cost) 
             if source.held {
                 return Way { cost: keep, bit: 0 };
             }
-            if store.0 < keep.0 {
+            if store < keep {
                 return Way {
                     cost: store,
                     bit: 1,
@@ -60,10 +60,7 @@ fn better(rates: Rates, before: Open, record: Record, kept: Cost, stored: Cost) 
 fn stored_before(before: Open) -> Open
     ensures { result ≡ left_by before store }
 {
-    let Open::One(record) = before else {
-        return Open::No;
-    };
-    Open::One(choice::chosen(record, 1))
+    before.map(|record| choice::chosen(record, 1))
 }
 
 // One record from the rear, after the one before it, kept or stored.
@@ -74,8 +71,8 @@ pub fn weigh(rates: Rates, before: Open, record: Record, kept: Cost, stored: Cos
     let k = better(rates, before, record, kept, stored);
     let s = better(rates, stored_before(before), record, kept, stored);
     Turn {
-        kept: Cost(k.cost.0),
-        stored: Cost(s.cost.0),
+        kept: k.cost,
+        stored: s.cost,
         hint: k.bit + 2 * s.bit,
     }
 }

@@ -30,10 +30,10 @@ module _ {x y : List ℕ} (ex : EightBytes x) (ey : EightBytes y) where
   one_length = ex.eight ∙ sym ey.eight
 
   eq_of_word : word_of x ≡ word_of y → x ≡ y
-  eq_of_word = bytes_of_word x y (λ k h. ex.bytes k (omega (arith, ex.eight))) (λ k h. ey.bytes k (omega (arith, ey.eight))) one_length
+  eq_of_word = bytes_of_word x y (λ k h. ex.bytes k (omega arith)) (λ k h. ey.bytes k (omega arith)) one_length
 
   eq_of_all : AllEqual x y → x ≡ y
-  eq_of_all h = ext_get_or 0 x y one_length (λ k lt. h k (omega (arith, ex.eight)))
+  eq_of_all h = ext_get_or 0 x y one_length (λ k lt. h k (omega arith))
 
 pub word_law : WordLaw
 word_law x y ex ey = (λ e k lt. ap (λ (l : List ℕ). get_or l k 0) (eq_of_word ex ey e), λ h. ap word_of (eq_of_all ex ey h))

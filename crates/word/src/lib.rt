@@ -6,27 +6,21 @@
 ghost use Rattle.std.specs.Prelude.{◌≡◌, ◌+◌, ◌≤◌, ◌<◌, length, take, drop};
 ghost use Rattle.word.specs.Word.{word_of, eight_at, Tells};
 
-// A byte as a wider number.
-fn wide(b: u8) -> u64
-    ensures { (result ≡ b) × (result < 256) }
-{
-    b as u64
-}
-
 // The word of the eight bytes from i on; the compiler makes one load of it.
 fn word_at(s: &[u8], i: usize) -> u64
     requires { i + 8 ≤ length s.now }
     ensures { result ≡ word_of (eight_at s.now i) }
 {
-    let low = wide(s[i])
-        + 256 * wide(s[i + 1])
-        + 65536 * wide(s[i + 2])
-        + 16777216 * wide(s[i + 3]);
-    let high = wide(s[i + 4])
-        + 256 * wide(s[i + 5])
-        + 65536 * wide(s[i + 6])
-        + 16777216 * wide(s[i + 7]);
-    low + 4294967296 * high
+    u64::from_le_bytes([
+        s[i],
+        s[i + 1],
+        s[i + 2],
+        s[i + 3],
+        s[i + 4],
+        s[i + 5],
+        s[i + 6],
+        s[i + 7],
+    ])
 }
 
 // Whether the eight bytes from i on are the same, by their words.

@@ -1,7 +1,6 @@
 -- `same_bytes` decides whether two lists of bytes are equal.
 -- Assumes nothing.
 use Prim.Native.Nat.{ℕ}
-use native.Mathlib.Omega.{arith}
 use mathlib.Core.Path.{◌≡◌, refl, sym, ◌∙◌, ap}
 use mathlib.Core.Bool.{Bool, true, false, ◌&&◌}
 use mathlib.Core.List.{List, [], ◌∷◌}
@@ -15,13 +14,13 @@ same_refl (x ∷ xs) = rw (eq-eqb x x refl) (same_refl xs)
 
 pub eq_of_same : (x y : List ℕ) → same_bytes x y ≡ true → x ≡ y
 eq_of_same [] [] e = refl
-eq_of_same [] (y ∷ ys) e = absurd (let z : ◌≡◌ {A = ℕ} 0 1 = cc in omega arith)
-eq_of_same (x ∷ xs) [] e = absurd (let z : ◌≡◌ {A = ℕ} 0 1 = cc in omega arith)
+eq_of_same [] (y ∷ ys) e = cc
+eq_of_same (x ∷ xs) [] e = cc
 eq_of_same (x ∷ xs) (y ∷ ys) e = go (eqb x y) refl e (eq_of_same xs ys)
   where
     go : (t : Bool) → eqb x y ≡ t → t && same_bytes xs ys ≡ true → (same_bytes xs ys ≡ true → xs ≡ ys) → x ∷ xs ≡ y ∷ ys
     go true k f ih = rw (eqb-true x y k, ih f)
-    go false k f ih = absurd (let z : ◌≡◌ {A = ℕ} 0 1 = cc in omega arith)
+    go false k f ih = cc
 
 -- what decides equality is `same_bytes`
 pub same_is : (x y : List ℕ) (r : Bool) → (r ≡ true → x ≡ y) × (x ≡ y → r ≡ true) → r ≡ same_bytes x y
@@ -34,13 +33,6 @@ same_is x y false h = go (same_bytes x y) refl
 
 pub same_of_eq : (x y : List ℕ) → x ≡ y → same_bytes x y ≡ true
 same_of_eq x y e = rw e (same_refl y)
-
-pub not_same : (x y : List ℕ) → (x ≡ y → ⊥) → same_bytes x y ≡ false
-not_same x y h = go (same_bytes x y) refl
-  where
-    go : (t : Bool) → same_bytes x y ≡ t → t ≡ false
-    go true e = absurd (h (eq_of_same x y e))
-    go false e = refl
 
 pub same_sym : (x y : List ℕ) → same_bytes x y ≡ same_bytes y x
 same_sym x y = same_is y x (same_bytes x y) (λ e. sym (eq_of_same x y e), λ e. same_of_eq x y (sym e))

@@ -1,17 +1,14 @@
 -- From a choice in its area and what was written of it to the answer and the areas of the call, and what these are where the call is accepted.
 -- Assumes nothing.
+use Rattle.std.specs.Prelude.{Ok, Err}
 use Prim.Native.Nat.{ℕ, ◌*◌, ◌/◌, ◌≤◌}
 use native.Mathlib.Omega.{arith}
 use mathlib.Core.Path.{◌≡◌, refl, sym, ◌∙◌, ap}
 use mathlib.Core.List.{List}
 use lib.ListN.{length, take}
 use Rattle.format.specs.declared.Record.{Record}
-use Rattle.format.specs.declared.Ruling.{Ruling}
-use Rattle.format.specs.declared.Ruling.TheVariants.{Fine, Stop}
+use Rattle.format.specs.Refusal.{Ruling, Answer, Accepts, figures_in}
 use Rattle.format.specs.declared.Refusal.{Refusal}
-use Rattle.format.specs.declared.Answer.{Answer}
-use Rattle.format.specs.declared.Answer.TheVariants.{Accepted, Refused}
-use Rattle.format.specs.Refusal.{Accepts, figures_in}
 use Rattle.format.specs.Record.{records_of, encode}
 use Rattle.format.specs.Meaning.{whole, stored, block_of}
 use Rattle.format.proofs.Rulings.{fine_of_accepts}
@@ -34,7 +31,7 @@ pub clauses : {q : Ruling} {rates : Rates} {list v : List ℕ} {c : List Bit} {l
     → Decided q rates list v c looks before r after → (r ≡ decided_answer q rates list c looks) × (after ≡ decided_areas q list v c before)
 clauses d = (d.answered, d.areas_after)
 
-pub decided_refused : {q : Ruling} {x : Refusal} {r : Answer} (rates : Rates) (list v : List ℕ) (c : List Bit) (looks : ℕ) (before : Areas) → q ≡ Stop x → r ≡ Refused x
+pub decided_refused : {q : Ruling} {x : Refusal} {r : Answer} (rates : Rates) (list v : List ℕ) (c : List Bit) (looks : ℕ) (before : Areas) → q ≡ Err x → r ≡ Err x
     → Decided q rates list v c looks before r before
 decided_refused rates list v c looks before e f = record { answered = rw e f; areas_after = rw e }
 
@@ -60,24 +57,24 @@ list_over list choice choice' c is_choice chosen =
     ap (list_of (records_of list)) (ap (bits_of (length list / 12)) chosen ∙ bits_over (length list / 12) c choice (length_choice (records_of list) c is_choice ∙ length_records_of list))
 
 -- the choice c stands in its area, and the end of the call is as it should be
-pub decided : {q : Ruling} {rates : Rates} {list v choice area block : List ℕ} {c : List Bit} {looks : ℕ} {r : Answer} {choice' area' block' : List ℕ} → q ≡ Fine
+pub decided : {q : Ruling} {rates : Rates} {list v choice area block : List ℕ} {c : List Bit} {looks : ℕ} {r : Answer} {choice' area' block' : List ℕ} → q ≡ Ok tt
     → IsChoice (records_of list) c → choice' ≡ over (bit_bytes c) choice → Finished rates list choice' v looks area block r area' block'
     → Decided q rates list v c looks (areas choice area block) r (areas choice' area' block')
 decided {q} {rates} {list} {v} {choice} {area} {block} {c} {looks} {r} {choice'} fine is_choice chosen done =
     let listed : list_in list choice' ≡ list_of (records_of list) c = list_over list choice choice' c is_choice chosen in
     record {
-      answered = rw fine (done.answered ∙ ap (λ (l : List Record). Accepted (figures rates l looks)) listed);
+      answered = rw fine (done.answered ∙ ap (λ (l : List Record). Ok (figures rates l looks)) listed);
       areas_after = rw (fine, chosen, done.area_after, done.block_after) (ap (λ (l : List Record). areas (over (bit_bytes c) choice) (over (encode l) area) (over (block_of l v) block)) listed);
     }
 
 -- an accepted call's ruling is fine
 pub decided_fine : {q : Ruling} {rates : Rates} {list v : List ℕ} {c : List Bit} {looks : ℕ} {before : Areas} {r : Answer} {after : Areas} → Decided q rates list v c looks before r after
-    → Accepts r → q ≡ Fine
+    → Accepts r → q ≡ Ok tt
 decided_fine {q} {rates} {list} {v} {c} {looks} d accepted = fine_of_accepts q (figures rates (list_of (records_of list) c) looks) (rw d.answered at accepted)
 
 -- a call whose ruling is fine
-module _ {q : Ruling} {rates : Rates} {list v : List ℕ} {c : List Bit} {looks : ℕ} {before : Areas} {r : Answer} {after : Areas} (d : Decided q rates list v c looks before r after) (fine : q ≡ Fine) where
-  pub answer_decided : r ≡ Accepted (figures rates (list_of (records_of list) c) looks)
+module _ {q : Ruling} {rates : Rates} {list v : List ℕ} {c : List Bit} {looks : ℕ} {before : Areas} {r : Answer} {after : Areas} (d : Decided q rates list v c looks before r after) (fine : q ≡ Ok tt) where
+  pub answer_decided : r ≡ Ok (figures rates (list_of (records_of list) c) looks)
   answer_decided = rw fine at d.answered
 
   pub areas_decided : after ≡ laid c (list_of (records_of list) c) v before
@@ -111,12 +108,12 @@ module _ {q : Ruling} {rates : Rates} {list v : List ℕ} {c : List Bit} {looks 
   list_within = go q refl
     where
       go : (k : Ruling) → q ≡ k → 12 * (figures_in r).entries ≤ length after.list
-      go Fine e = list_room d e (ap (λ (a : Answer). 12 * (figures_in a).entries) (answer_decided d e))
-      go (Stop x) e = rw (d.answered, e) (omega arith)
+      go (Ok _) e = list_room d e (ap (λ (a : Answer). 12 * (figures_in a).entries) (answer_decided d e))
+      go (Err x) e = rw (d.answered, e) (omega arith)
 
-  pub block_within : (q ≡ Fine → whole (list_of (records_of list) c) ≤ length v) → (figures_in r).stored ≤ length after.block
+  pub block_within : (q ≡ Ok tt → whole (list_of (records_of list) c) ≤ length v) → (figures_in r).stored ≤ length after.block
   block_within in_version = go q refl
     where
       go : (k : Ruling) → q ≡ k → (figures_in r).stored ≤ length after.block
-      go Fine e = block_room d e (ap (λ (a : Answer). (figures_in a).stored) (answer_decided d e)) (in_version e)
-      go (Stop x) e = rw (d.answered, e) (omega arith)
+      go (Ok _) e = block_room d e (ap (λ (a : Answer). (figures_in a).stored) (answer_decided d e)) (in_version e)
+      go (Err x) e = rw (d.answered, e) (omega arith)

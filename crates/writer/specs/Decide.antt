@@ -1,12 +1,9 @@
 -- Partition and pass: what both answer and write for a choice (clauses 4.7.2 to 4.7.4); estimate and commit answer so too.
 -- Assumes nothing.
-use Rattle.std.specs.Prelude.{ℕ, ◌≡◌, List, length}
+use Rattle.std.specs.Prelude.{ℕ, ◌≡◌, List, length, Ok}
 use Rattle.format.specs.declared.Record.{Record}
-use Rattle.format.specs.declared.Ruling.{Ruling}
+use Rattle.format.specs.Refusal.{Ruling, Answer, answer, unless_refused}
 use Rattle.format.specs.declared.Figures.{Figures}
-use Rattle.format.specs.declared.Answer.{Answer}
-use Rattle.format.specs.declared.Answer.TheVariants.{Accepted}
-use Rattle.format.specs.Refusal.{answer, unless_refused}
 use Rattle.format.specs.Record.{records_of, encode}
 use Rattle.format.specs.Meaning.{stored, block_of}
 use Rattle.price.specs.declared.Rates.{Rates}
@@ -42,6 +39,6 @@ pub record Finishable (rates : Rates) (list choice version area block : List ℕ
 
 -- the answer r and the areas for list and block after the end of a call, by the choice in its area
 pub record Finished (rates : Rates) (list choice version : List ℕ) (looks : ℕ) (area block : List ℕ) (r : Answer) (area' block' : List ℕ) : Type 0 where
-  pub answered : r ≡ Accepted (figures rates (list_in list choice) looks)
+  pub answered : r ≡ Ok (figures rates (list_in list choice) looks)
   pub area_after : area' ≡ over (encode (list_in list choice)) area
   pub block_after : block' ≡ over (block_in list choice version) block

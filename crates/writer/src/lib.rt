@@ -4,12 +4,12 @@
 ghost use Rattle.writer.specs.Write.{RunReady, RunOf, ListReady, ListWritten, BlockReady, BlockWritten};
 ghost use Rattle.writer.specs.Decide.{Finishable, Finished};
 
+use emit::Emitter;
 use format::{Answer, Figures, Record};
-use join::Open;
 use price::Rates;
 
 // An entry of the choice's list before it joins another, and the record after those that it stands for.
-#[derive(Clone, Copy)]
+#[derive(Clone, Copy, Debug, PartialEq, Eq)]
 pub struct Run {
     pub entry: Record,
     pub next: usize,
@@ -28,8 +28,7 @@ fn run_at(list: &[u8], choice: &[u8], n: usize, i: usize) -> Run
         };
     }
     let mut size = format::size_of(first);
-    let mut k = i + 1;
-    while k < n {
+    for k in i + 1..n {
         if choice[k] == 0 {
             return Run {
                 entry: Record::New(size),
@@ -37,36 +36,31 @@ fn run_at(list: &[u8], choice: &[u8], n: usize, i: usize) -> Run
             };
         }
         size += format::size_of(format::record_at(list, k));
-        k += 1;
     }
     Run {
         entry: Record::New(size),
-        next: k,
+        next: n,
     }
 }
 
-// The list of the choice, over the front of the area; gives its length in bytes.
+// The list of the choice, over the front of the area; gives its length in bytes. It goes from run to run, and these are of any length, so no `for` fits.
 fn write_list(list: &[u8], choice: &[u8], list_area: &mut [u8]) -> usize
     requires { ListReady list.now choice.now list_area.old }
     ensures { ListWritten list.now choice.now list_area.old list_area.new result }
 {
     let n = list.len() / 12;
-    let mut out = 0;
-    let mut last = Open::No;
+    let mut written = Emitter::new(list_area);
     let mut i = 0;
     while i < n {
         let r = run_at(list, choice, n, i);
-        let entry = r.entry;
-        let e = emit::emit(list_area, out, last, entry);
-        out = e.out;
-        last = e.last;
+        written.emit(r.entry);
         i = r.next;
     }
-    emit::flush(list_area, out, last)
+    written.flush()
 }
 
 // The length of a stored block, and the new entries of its list.
-#[derive(Clone, Copy)]
+#[derive(Clone, Copy, Debug, PartialEq, Eq)]
 pub struct Stored {
     pub bytes: usize,
     pub fresh: u64,
@@ -77,16 +71,13 @@ fn write_block(list: &[u8], version: &[u8], block_area: &mut [u8]) -> Stored
     requires { BlockReady list.now version.now block_area.old }
     ensures { BlockWritten list.now version.now block_area.old block_area.new result }
 {
-    let n = list.len() / 12;
     let mut at = 0;
     let mut out = 0;
     let mut fresh: u64 = 0;
-    let mut i = 0;
-    while i < n {
+    for i in 0..list.len() / 12 {
         let record = format::record_at(list, i);
         let from = at;
-        at += format::index(format::size_of(record));
-        i += 1;
+        at += format::size_of(record) as usize;
         if let Record::New(_) = record {
             let part = &version[from..at];
             area::put(block_area, out, part);
@@ -111,14 +102,14 @@ pub fn finish(
     ensures { Finished rates list.now choice.now version.now looks list_area.old block_area.old result list_area.new block_area.new }
 {
     let n = write_list(list, choice, list_area);
-    let block = write_block(&list_area[0..n], version, block_area);
+    let block = write_block(&list_area[..n], version, block_area);
     let stored = block.bytes as u32;
     let cost = price::cost_by(rates, (n / 12) as u64, block.fresh, stored);
-    Answer::Accepted(Figures {
+    Ok(Figures {
         cost: cost.0,
         entries: (n / 12) as u32,
         stored,
         looks,
-        whole: 0,
+        ..Figures::default()
     })
 }

@@ -1,12 +1,9 @@
--- `area::put_blocks` meets its contract. The invariant: the first i bytes of src stand in the area. The measure is the number of bytes left. Assumes nothing.
-use Prim.Native.Nat.{◌-◌, ◌≤◌}
+-- `area::put_blocks` meets its contract. The invariant: the first k blocks of src stand in the area. Assumes nothing.
+use Prim.Native.Nat.{◌*◌}
 use mathlib.Core.Path.{◌≡◌}
-use lib.ListN.{length, take}
+use lib.ListN.{take}
 use Rattle.area.specs.Area.{pasted}
 use Rattle.area.proofs.put_blocks.Given as goal
 
-abbrev pub invariant-loop-i : goal.invariant-loop-i
-invariant-loop-i l = (l.i ≤ length l.src) × (length l.area ≡ length l.initial.area) × (l.area ≡ pasted l.at (take l.i l.src) l.initial.area)
-
-abbrev pub decreases-loop-i : goal.decreases-loop-i
-decreases-loop-i l = length l.src - l.i
+abbrev pub invariant-loop-k : goal.invariant-loop-k
+invariant-loop-k g l = l.area ≡ pasted l.at (take (g.row.N * l.k) l.src) l.initial.area

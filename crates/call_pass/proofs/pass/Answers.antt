@@ -9,16 +9,16 @@ use Rattle.writer.proofs.Deciding.{finishable, decided}
 use Rattle.linear.proofs.Theorems.{pass_holds}
 use Rattle.std.proofs.Common.{rules}
 use Rattle.call_pass.proofs.pass.Goals as goal
-use Rattle.call_pass.proofs.pass.Goals.{In-Through}
+use Rattle.call_pass.proofs.pass.Goals.{In-Ok}
 
 -- all checks have passed
-passed : (c : In-Through) → let g = c.args in
+passed : (c : In-Ok) → let g = c.args in
     Admitted g.price g.list.now g.version.now g.store.now (length g.choice.now) (length g.list_area.now) (length g.block_area.now)
-passed c = admitted_of_through _ _ _ _ _ _ _ c.in-Through._totals (sym c.admit-w.ensures ∙ c.in-Through.is)
+passed c = admitted_of_through _ _ _ _ _ _ _ c.in-Ok._totals (sym c.admit-w.ensures ∙ c.in-Ok.is)
 
 pub pass_choice-looks-requires : goal.pass_choice-looks-requires
 pass_choice-looks-requires c =
-    let s = (passed (goal.at.pass_choice-looks-requires c).In-Through).sound in
+    let s = (passed (goal.at.pass_choice-looks-requires c).In-Ok).sound in
     record {
       rates_fit = rw c.rates_of-rates.ensures s.fits.rates_fit;
       list_at_most = s.fits.counted.list_at_most;
@@ -28,12 +28,12 @@ pass_choice-looks-requires c =
     }
 
 pub finish-requires : goal.finish-requires
-finish-requires c = finishable (passed (goal.at.finish-requires c).In-Through).sound c.rates_of-rates.ensures (search rules)
+finish-requires c = finishable (passed (goal.at.finish-requires c).In-Ok).sound c.rates_of-rates.ensures (search rules)
 
 pub returns : goal.returns
 returns c =
     let g = c.args in
-    let x = passed (goal.at.returns c).In-Through in
+    let x = passed (goal.at.returns c).In-Ok in
     let holds = pass_holds (rates_of g.price) (records_of g.list.now) x.sound.covered.is_well_formed.sized in
     let rates = c.rates_of-rates.ensures in
     let chosen = rw rates at c.pass_choice-looks.ensures in

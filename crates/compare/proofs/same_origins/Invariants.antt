@@ -5,8 +5,8 @@ use Rattle.cursors.specs.Cursor.{remaining}
 use Rattle.compare.proofs.Comparing.{SoFar}
 use Rattle.compare.proofs.same_origins.Given as goal
 
-abbrev pub invariant-loop-x : goal.invariant-loop-x
-invariant-loop-x l = SoFar l.first l.second l.x l.y
+abbrev pub invariant-loop-at : goal.invariant-loop-at
+invariant-loop-at l = SoFar l.first l.second l.at
 
-abbrev pub decreases-loop-x : goal.decreases-loop-x
-decreases-loop-x l = whole (remaining l.first l.x)
+abbrev pub decreases-loop-at : goal.decreases-loop-at
+decreases-loop-at l = whole (remaining l.first l.at.first)

@@ -1,8 +1,7 @@
 -- `deposit::deposit` meets its contract: as many bytes as the first call says are handed on of what it wrote; each call's contract is the call's own, and
 -- that the version comes back follows from them. Assumes nothing.
-use Prim.Native.Nat.{◌-◌}
 use native.Mathlib.Omega.{arith}
-use mathlib.Core.Path.{◌≡◌}
+use mathlib.Core.Path.{refl}
 use Rattle.area.specs.Area.{areas}
 use Rattle.call_partition.proofs.Meeting.{partitioned}
 use Rattle.rebuild_volume.specs.RebuildVolume.{VolumeRebuilt}
@@ -23,12 +22,11 @@ made c =
 pub slice_bounds-partition-end : goal.slice_bounds-partition-end
 slice_bounds-partition-end c =
     let g = c.args in
-    omega (arith, volume_there {k = kept g.index.now g.lists.now g.blocks.now} (made (goal.at.slice_bounds-partition-end c).After-rebuild_volume-rebuilt) c.in-Accepted.is, c.index-n.ensures.0)
+    omega (arith, volume_there {k = kept g.index.now g.lists.now g.blocks.now} (made (goal.at.slice_bounds-partition-end c).After-rebuild_volume-rebuilt) c.in-Ok.is)
 
 pub returns : goal.returns
 returns c =
     let g = c.args in
-    let n : c.index-n.result - 0 ≡ c.in-Accepted.figures.whole = omega (arith, c.index-n.ensures.0) in
     let e = c.partition-deposited.ensures in
     let next = partitioned g.price g.list.now g.version.now _ (areas g.choice.now g.list_area.now g.block_area.now) (e.answered, e.areas_after) in
-    record { deposits = deposited_next {k = kept g.index.now g.lists.now g.blocks.now} (made (goal.at.returns c).After-rebuild_volume-rebuilt) c.in-Accepted.is n next }
+    record { deposits = deposited_next {k = kept g.index.now g.lists.now g.blocks.now} (made (goal.at.returns c).After-rebuild_volume-rebuilt) c.in-Ok.is refl next }

@@ -1,4 +1,4 @@
--- The list is loaded, the looks are those of the pass as it is defined, and the choice is that of the items at its end.
+-- The list is loaded, the looks are those of the pass as it is defined, and the choice is that of the items at its end. Assumes nothing.
 use mathlib.Core.Path.{◌≡◌, ap, ◌∙◌}
 use mathlib.Core.List.{List}
 use Rattle.format.specs.Record.{records_of}
@@ -15,14 +15,14 @@ use Rattle.linear.proofs.pass_choice.Goals.{After-look_through-looks}
 
 -- the list after the looks, with their number
 abbrev passed : After-look_through-looks → Passed
-passed c = record { list = c.look_through-looks.new.list; looks = c.look_through-looks.result }
+passed c = record { list = c.look_through-looks.new.self; looks = c.look_through-looks.result }
 
 same : (c : After-look_through-looks) → let g = c.args in end_of (passed c).list ≡ pass_items g.rates (records_of g.list.now)
-same c = end_of_ran c.args.rates (records_of c.args.list.now) c.load-loaded.result (passed c) c.load-loaded.ensures c.look_through-looks.ensures
+same c = end_of_ran c.args.rates (records_of c.args.list.now) c.load-machine.result (passed c) c.load-machine.ensures c.look_through-looks.ensures
 
 pub look_through-looks-requires : goal.look_through-looks-requires
 look_through-looks-requires c =
-    runnable_of_loaded c.args.rates (records_of c.args.list.now) c.load-loaded.result c.requires.rates_fit c.load-loaded.ensures c.requires.whole_most
+    runnable_of_loaded c.args.rates (records_of c.args.list.now) c.load-machine.result c.requires.rates_fit c.load-machine.ensures c.requires.whole_most
 
 pub read_off-requires : goal.read_off-requires
 read_off-requires c =
@@ -39,7 +39,7 @@ pub returns : goal.returns
 returns c =
     let g = c.args in
     let rs = records_of g.list.now in
-    let l = c.load-loaded in
+    let l = c.load-machine in
     let p = (goal.at.returns c).After-look_through-looks in
     let u = c.look_through-looks.ensures in
     record {

@@ -5,8 +5,8 @@ use Rattle.pool.proofs.Taking.{to_come}
 use Rattle.pool.proofs.Counting.{Counting}
 use Rattle.pool.proofs.count_pooled.Given as goal
 
-abbrev pub invariant-loop-x : goal.invariant-loop-x
-invariant-loop-x l = Counting l.first l.second l.x l.y l.last l.entries
+abbrev pub invariant-loop-at : goal.invariant-loop-at
+invariant-loop-at l = Counting l.first l.second l.at l.last l.entries
 
-abbrev pub decreases-loop-x : goal.decreases-loop-x
-decreases-loop-x l = whole (to_come l.first l.second l.x l.y)
+abbrev pub decreases-loop-at : goal.decreases-loop-at
+decreases-loop-at l = whole (to_come l.first l.second l.at)

@@ -5,8 +5,8 @@ use Rattle.pool.proofs.Taking.{to_come}
 use Rattle.pool.proofs.Writing.{Writing}
 use Rattle.pool.proofs.write_pooled.Given as goal
 
-abbrev pub invariant-loop-x : goal.invariant-loop-x
-invariant-loop-x l = Writing l.first l.second l.initial.area l.area l.x l.y l.out l.last
+abbrev pub invariant-loop-at : goal.invariant-loop-at
+invariant-loop-at l = Writing l.first l.second l.fn.area l.at l.initial.written l.written
 
-abbrev pub decreases-loop-x : goal.decreases-loop-x
-decreases-loop-x l = whole (to_come l.first l.second l.x l.y)
+abbrev pub decreases-loop-at : goal.decreases-loop-at
+decreases-loop-at l = whole (to_come l.first l.second l.at)

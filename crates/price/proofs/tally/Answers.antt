@@ -1,3 +1,4 @@
+-- The goals of `price::tally` that are left. Its invariant is in `Invariants`. Assumes nothing.
 use Prim.Native.Nat.{◌+◌, ◌/◌}
 use native.Mathlib.Omega.{arith}
 use mathlib.Core.Path.{◌≡◌, ◌∙◌, ap}
@@ -16,10 +17,10 @@ loop-i-preserved c =
     let i = c.loop-i.i in
     let is : c.record_at.result ≡ record_of (row_at l i) = c.record_at.ensures in
     let next : news (records_from l (length l / 12) i) ≡ news (record_of (row_at l i) ∷ []) + news (records_from l (length l / 12) (i + 1)) = ap news (records_from_next l (length l / 12) i (omega arith)) ∙ news_cons (record_of (row_at l i)) (records_from l (length l / 12) (i + 1)) in
-    (omega arith, omega (arith, c.loop-i.invariant.1, c.one_if_new-count.ensures.1), omega (arith, c.loop-i.invariant.2, c.one_if_new-count.ensures.0, ap (λ (x : Record). news (x ∷ [])) is, next))
+    (omega (arith, c.loop-i.invariant.0, c.one_if_new-count.ensures.1), omega (arith, c.loop-i.invariant.1, c.one_if_new-count.ensures.0, ap (λ (x : Record). news (x ∷ [])) is, next))
 
 pub returns : goal.returns
 returns c =
     let l = c.args.list.now in
     let none = ap news (records_from_none l (length l / 12) c.loop-i.i (omega arith)) in
-    record { is = omega (arith, c.loop-i.invariant.2, none); most = omega (arith, c.loop-i.invariant.1, length_records_of l) }
+    record { is = omega (arith, c.loop-i.invariant.1, none); most = omega (arith, c.loop-i.invariant.0, length_records_of l) }

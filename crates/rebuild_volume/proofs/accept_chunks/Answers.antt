@@ -1,59 +1,55 @@
-use Prim.Native.Nat.{◌+◌, ◌-◌}
+-- The goals of `rebuild_volume::accept_chunks` that are left. Its invariant is in `Invariants`. Assumes nothing.
+use Prim.Native.Nat.{ℕ, ◌+◌, ◌-◌}
 use native.Mathlib.Omega.{arith}
 use mathlib.Core.Path.{◌≡◌, sym, ◌∙◌, ap}
 use lib.ListN.{take, drop}
-use Rattle.format.specs.declared.Answer.TheVariants.{Refused}
-use Rattle.format.specs.Refusal.{refuse}
 use Rattle.format.specs.Record.{records_of}
 use Rattle.walk.specs.declared.Totals.{Totals}
-use Rattle.walk.specs.declared.Walked.{Walked}
-use Rattle.walk.specs.Walked.{refusal_of}
 use Rattle.walk.proofs.Telling.{fine_of_through, stop_of_stopped}
 use Rattle.volume.specs.Volume.{Chunk, chunk}
 use Rattle.volume.proofs.Cutting.{cut_lists, cut_blocks}
 use Rattle.rebuild_volume.specs.RebuildVolume.{chunk_ruling}
 use Rattle.rebuild_volume.proofs.Passing.{passed_stop, passed_most, passed_next}
 use Rattle.rebuild_volume.proofs.accept_chunks.Goals as goal
-use Rattle.rebuild_volume.proofs.accept_chunks.Goals.{After-index-in-loop-i, In-Through}
-
--- the chunk's list and its stored block are as long as the index record says
-list_long : (c : After-index-in-loop-i) → let l = c.loop-i in l.l + c.index.result - l.l ≡ c.index_row_at-row.result.list
-list_long c = omega (arith, c.index.ensures.0)
-
-block_long : (c : After-index-in-loop-i) → let l = c.loop-i in l.b + c.index-in-loop-i.result - l.b ≡ c.index_row_at-row.result.block
-block_long c = omega (arith, c.index-in-loop-i.ensures.0)
+use Rattle.rebuild_volume.proofs.accept_chunks.Goals.{After-read}
 
 -- the chunk that is read
-abbrev here : After-index-in-loop-i → Chunk
+abbrev here : After-read → Chunk
 here c =
     let l = c.loop-i in
-    chunk (take (l.l + c.index.result - l.l) (drop l.l c.args.lists.now)) (take (l.b + c.index-in-loop-i.result - l.b) (drop l.b c.args.blocks.now))
+    let r = c.index_row_at-row.result in
+    chunk (take (l.l + r.list - l.l) (drop l.l c.args.lists.now)) (take (l.b + r.block - l.b) (drop l.b c.args.blocks.now))
 
 pub slice_bounds-read-end : goal.slice_bounds-read-end
-slice_bounds-read-end c = omega (arith, cut_lists c.loop-i.invariant.1.cut c.index_row_at-row.ensures (omega arith), c.index.ensures.0)
+slice_bounds-read-end c = omega (arith, cut_lists c.loop-i.invariant.cut c.index_row_at-row.ensures (omega arith))
 
 pub slice_bounds-read-end-in-loop-i : goal.slice_bounds-read-end-in-loop-i
-slice_bounds-read-end-in-loop-i c = omega (arith, cut_blocks c.loop-i.invariant.1.cut c.index_row_at-row.ensures (omega arith), c.index-in-loop-i.ensures.0)
+slice_bounds-read-end-in-loop-i c = omega (arith, cut_blocks c.loop-i.invariant.cut c.index_row_at-row.ensures (omega arith))
 
-pub returns-in_default : goal.returns-in_default
-returns-in_default c =
-    let p = (goal.at.returns-in_default c).After-index-in-loop-i in
+long : (a b : ℕ) → a + b - a ≡ b
+long a b = omega arith
+
+pub returns-in-Err : goal.returns-in-Err
+returns-in-Err c =
+    let p = (goal.at.returns-in-Err c).After-read in
     let l = c.loop-i in
-    let stop = stop_of_stopped (chunk_ruling l.at (here p)) (records_of (here p).list) c.in_default.field-0 (sym c.read-w.ensures ∙ c.in_default.is) in
-    rw (passed_stop l.invariant.1 c.index_row_at-row.ensures (omega arith) (list_long p) (block_long p) stop)
-    (c.refused_at.ensures ∙ ap (λ (w : Walked). Refused (refuse (refusal_of w).fault l.i)) c.in_default.is)
+    let r = c.index_row_at-row in
+    let stop = stop_of_stopped (chunk_ruling l.at (here p)) (records_of (here p).list) c.in-Err.refusal (sym c.read.ensures ∙ c.in-Err.is) in
+    rw (passed_stop l.invariant r.ensures c.loop-i-test.true (long l.l r.result.list) (long l.b r.result.block) stop)
 
 pub overflow_add-at : goal.overflow_add-at
 overflow_add-at c =
-    let p = (goal.at.overflow_add-at c).After-index-in-loop-i in
-    let through = fine_of_through (chunk_ruling c.loop-i.at (here p)) (records_of (here p).list) c.in-Through.t (sym c.read-w.ensures ∙ c.in-Through.is) in
-    let most = passed_most c.loop-i.invariant.1 c.index_row_at-row.ensures (omega arith) (list_long p) (block_long p) through.0 in
+    let p = (goal.at.overflow_add-at c).After-read in
+    let l = c.loop-i in
+    let r = c.index_row_at-row in
+    let through = fine_of_through (chunk_ruling l.at (here p)) (records_of (here p).list) c.in-Ok.totals (sym c.read.ensures ∙ c.in-Ok.is) in
+    let most = passed_most l.invariant r.ensures c.loop-i-test.true (long l.l r.result.list) (long l.b r.result.block) through.0 in
     omega (arith, most, ap (λ (t : Totals). t.whole) through.1)
 
 pub loop-i-preserved : goal.loop-i-preserved
 loop-i-preserved c =
-    let p = (goal.at.loop-i-preserved c).After-index-in-loop-i in
+    let p = (goal.at.loop-i-preserved c).After-read in
     let l = c.loop-i in
-    let through = fine_of_through (chunk_ruling l.at (here p)) (records_of (here p).list) c.in-Through.t (sym c.read-w.ensures ∙ c.in-Through.is) in
-    let longer = ap (λ (t : Totals). l.at + t.whole) through.1 in
-    (omega arith, passed_next l.invariant.1 c.index_row_at-row.ensures (omega arith) (list_long p) (block_long p) through.0 (omega arith) (omega arith) longer)
+    let r = c.index_row_at-row in
+    let through = fine_of_through (chunk_ruling l.at (here p)) (records_of (here p).list) c.in-Ok.totals (sym c.read.ensures ∙ c.in-Ok.is) in
+    passed_next l.invariant r.ensures c.loop-i-test.true (long l.l r.result.list) (long l.b r.result.block) through.0 (omega arith) (omega arith) (ap (λ (t : Totals). l.at + t.whole) through.1)

@@ -1,3 +1,4 @@
+-- The goals of `rebuild_volume::sums_of` that are left. Its invariant is in `Invariants`. Assumes nothing.
 use Prim.Native.Nat.{◌/◌}
 use native.Mathlib.Omega.{arith}
 use mathlib.Core.Path.{ap}
@@ -12,6 +13,4 @@ loop-i-preserved c =
     let l = c.loop-i in
     let n = length g.index.now / 8 in
     let e = rows_next g.index.now n l.i c.index_row_at-row.ensures (omega arith) in
-    let x = c.index-lists.ensures in
-    let y = c.index-blocks.ensures in
-    (omega arith, omega (arith, x.0, x.1), omega (arith, y.0, y.1), omega (arith, x.0, ap lists_length e, l.invariant.3), omega (arith, y.0, ap blocks_length e, l.invariant.4))
+    (omega arith, omega arith, omega (arith, ap lists_length e, l.invariant.2), omega (arith, ap blocks_length e, l.invariant.3))

@@ -17,31 +17,31 @@ use Rattle.show.proofs.show.Goals as goal
 pub record_at-record-requires : goal.record_at-record-requires
 record_at-record-requires c =
     let g = c.args in
-    let fine = (fine_of_through (check_ruling g.list.now g.block.now g.store.now g.k) (records_of g.list.now) _ (sym c.accept_place-w.ensures ∙ c.in-Through.is)).0 in
+    let fine = (fine_of_through (check_ruling g.list.now g.block.now g.store.now g.k) (records_of g.list.now) _ (sym c.accept_place.ensures ∙ c.in-Ok.is)).0 in
     let both = checked_parts g.list.now g.block.now g.store.now g.k fine in
-    omega (arith, both.1, c.index-i.ensures.0, length_records_of g.list.now)
+    omega (arith, both.1, length_records_of g.list.now)
 
 pub stored_before-requires : goal.stored_before-requires
 stored_before-requires c =
     let g = c.args in
-    let fine = (fine_of_through (check_ruling g.list.now g.block.now g.store.now g.k) (records_of g.list.now) _ (sym c.accept_place-w.ensures ∙ c.in-Through.is)).0 in
+    let fine = (fine_of_through (check_ruling g.list.now g.block.now g.store.now g.k) (records_of g.list.now) _ (sym c.accept_place.ensures ∙ c.in-Ok.is)).0 in
     let both = checked_parts g.list.now g.block.now g.store.now g.k fine in
-    (omega (arith, both.1, c.index-i.ensures.0), omega (arith, both.0.whole_most, stored_most (records_of g.list.now)))
+    (omega (arith, both.1), omega (arith, both.0.whole_most, stored_most (records_of g.list.now)))
 
 pub part_of-requires : goal.part_of-requires
 part_of-requires c =
     let g = c.args in
-    let fine = (fine_of_through (check_ruling g.list.now g.block.now g.store.now g.k) (records_of g.list.now) _ (sym c.accept_place-w.ensures ∙ c.in-Through.is)).0 in
+    let fine = (fine_of_through (check_ruling g.list.now g.block.now g.store.now g.k) (records_of g.list.now) _ (sym c.accept_place.ensures ∙ c.in-Ok.is)).0 in
     let both = checked_parts g.list.now g.block.now g.store.now g.k fine in
-    let is : c.record_at-record.result ≡ get_or (records_of g.list.now) g.k (New 0) = c.record_at-record.ensures ∙ ap (λ (i : ℕ). record_of (row_at g.list.now i)) c.index-i.ensures.0 ∙ sym (get_d_records_of g.list.now g.k both.1) in
-    let from : c.stored_before.result ≡ stored (take g.k (records_of g.list.now)) = c.stored_before.ensures ∙ ap (λ (j : ℕ). stored (take j (records_of g.list.now))) c.index-i.ensures.0 in
+    let is : c.record_at-record.result ≡ get_or (records_of g.list.now) g.k (New 0) = c.record_at-record.ensures ∙ sym (get_d_records_of g.list.now g.k both.1) in
+    let from : c.stored_before.result ≡ stored (take g.k (records_of g.list.now)) = c.stored_before.ensures in
     rw (is, from) (lies_at (records_of g.list.now) g.block.now g.store.now g.k both.0.inside both.0.block_fits both.1)
 
 pub returns : goal.returns
 returns c =
     let g = c.args in
-    let fine = (fine_of_through (check_ruling g.list.now g.block.now g.store.now g.k) (records_of g.list.now) _ (sym c.accept_place-w.ensures ∙ c.in-Through.is)).0 in
+    let fine = (fine_of_through (check_ruling g.list.now g.block.now g.store.now g.k) (records_of g.list.now) _ (sym c.accept_place.ensures ∙ c.in-Ok.is)).0 in
     let both = checked_parts g.list.now g.block.now g.store.now g.k fine in
-    let is : c.record_at-record.result ≡ get_or (records_of g.list.now) g.k (New 0) = c.record_at-record.ensures ∙ ap (λ (i : ℕ). record_of (row_at g.list.now i)) c.index-i.ensures.0 ∙ sym (get_d_records_of g.list.now g.k both.1) in
-    let from : c.stored_before.result ≡ stored (take g.k (records_of g.list.now)) = c.stored_before.ensures ∙ ap (λ (j : ℕ). stored (take j (records_of g.list.now))) c.index-i.ensures.0 in
+    let is : c.record_at-record.result ≡ get_or (records_of g.list.now) g.k (New 0) = c.record_at-record.ensures ∙ sym (get_d_records_of g.list.now g.k both.1) in
+    let from : c.stored_before.result ≡ stored (take g.k (records_of g.list.now)) = c.stored_before.ensures in
     record { part_lent = c.part_of.ensures ∙ rw (fine, is, from) }

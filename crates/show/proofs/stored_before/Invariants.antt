@@ -1,6 +1,4 @@
--- `show::stored_before` meets its contract. The invariant: `sum` is the stored bytes of the first i records. The measure is what is left of k.
--- Assumes nothing.
-use Prim.Native.Nat.{◌-◌, ◌≤◌}
+-- `show::stored_before` meets its contract. The invariant: `sum` is the stored bytes of the first i records. Assumes nothing.
 use mathlib.Core.Path.{◌≡◌}
 use lib.ListN.{take}
 use Rattle.format.specs.Record.{records_of}
@@ -8,7 +6,4 @@ use Rattle.format.specs.Meaning.{stored}
 use Rattle.show.proofs.stored_before.Given as goal
 
 abbrev pub invariant-loop-i : goal.invariant-loop-i
-invariant-loop-i l = (l.i ≤ l.k) × (l.sum ≡ stored (take l.i (records_of l.list)))
-
-abbrev pub decreases-loop-i : goal.decreases-loop-i
-decreases-loop-i l = l.k - l.i
+invariant-loop-i l = l.sum ≡ stored (take l.i (records_of l.list))

@@ -1,8 +1,5 @@
 -- The three ways out: one call, an estimate that is refused, and both calls, where of what the estimate wrote a byte for each record is handed on. Assumes nothing.
-use Prim.Native.Nat.{◌-◌, ◌/◌}
-use native.Mathlib.Omega.{arith}
-use mathlib.Core.Path.{◌≡◌, sym, ◌∙◌}
-use lib.ListN.{length}
+use mathlib.Core.Path.{refl, sym, ◌∙◌}
 use Rattle.area.specs.Area.{areas}
 use Rattle.estimate.proofs.Estimating.{estimate_made}
 use Rattle.commit.proofs.Committing.{commit_made}
@@ -15,7 +12,7 @@ returns-then-not-areas_fit c =
     let k = c.commit-committed.ensures in
     let before = areas g.choice.now g.list_area.now g.block_area.now in
     let made = commit_made g.price g.list.now g.version.now g.store.now g.choice.now g.list_area.now g.block_area.now (k.answered, (k.list_after, k.block_after)) in
-    record { two_calls = one_call g.price g.list.now g.version.now g.store.now before (sym c.areas_fit.ensures ∙ c.if-not-areas_fit.true) made }
+    record { two_calls = rw c.alone.ensures (one_call g.price g.list.now g.version.now g.store.now before (sym c.areas_fit.ensures ∙ c.if-not-areas_fit.true) made) }
 
 pub returns-in_default : goal.returns-in_default
 returns-in_default c =
@@ -23,7 +20,7 @@ returns-in_default c =
     let e = c.estimate-estimated.ensures in
     let before = areas g.choice.now g.list_area.now g.block_area.now in
     let made = estimate_made g.price g.list.now g.version.now g.store.now g.choice.now (e.answered, e.choice_after) in
-    record { two_calls = estimate_refused g.price g.list.now g.version.now g.store.now before (sym c.areas_fit.ensures ∙ c.if-not-areas_fit.false) made c.in_default.is }
+    record { two_calls = rw c.alone-in_default.ensures (estimate_refused g.price g.list.now g.version.now g.store.now before (sym c.areas_fit.ensures ∙ c.if-not-areas_fit.false) made c.in_default.is) }
 
 pub returns : goal.returns
 returns c =
@@ -32,7 +29,6 @@ returns c =
     let k = c.commit-committed-2.ensures in
     let before = areas g.choice.now g.list_area.now g.block_area.now in
     let roomy = sym c.areas_fit.ensures ∙ c.if-not-areas_fit.false in
-    let n : length g.list.now / 12 - 0 ≡ length g.list.now / 12 = omega arith in
     let first = estimate_made g.price g.list.now g.version.now g.store.now g.choice.now (e.answered, e.choice_after) in
     let second = commit_made g.price g.list.now g.version.now g.store.now _ g.list_area.now g.block_area.now (k.answered, (k.list_after, k.block_after)) in
-    record { two_calls = estimate_committed g.price g.list.now g.version.now g.store.now before roomy first c.in-Accepted.is n second }
+    record { two_calls = estimate_committed g.price g.list.now g.version.now g.store.now before roomy first c.in-Ok.is refl second }

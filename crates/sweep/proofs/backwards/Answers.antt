@@ -1,11 +1,11 @@
--- The step of the sweep: the record's turn is the path's, and its hint goes in front of those that are there.
+-- The step of the sweep: the record's turn is the path's, and its hint goes in front of those that are there. Assumes nothing.
 use Prim.Native.Nat.{ℕ, ◌*◌, ◌-◌, ◌≤◌, ◌<◌}
 use native.Mathlib.Omega.{arith}
 use mathlib.Core.Path.{◌∙◌, ap, ap₂}
 use mathlib.Core.List.{List, ◌∷◌, ◌++◌}
 use lib.ListN.{drop, set}
 use Rattle.format.specs.declared.Record.{Record}
-use Rattle.join.specs.declared.Open.{Open}
+use Rattle.join.specs.Open.{Open}
 use Rattle.choice.specs.Path.{step_most}
 use Rattle.weigh.specs.Weigh.{turned}
 use Rattle.sweep.proofs.Sweeping.{swept_next, set_back}
@@ -19,17 +19,16 @@ loop-i-preserved c =
     let t = c.weigh-t in
     let some : 0 < l.i = c.loop-i-test.true in
     let most : ℕ = step_most * (g.n - l.i) in
-    let kept_in : l.kept.0 ≤ most = omega (arith, l.invariant.kept_most, l.invariant.in_n) in
-    let stored_in : l.stored.0 ≤ most = omega (arith, l.invariant.stored_most, l.invariant.in_n) in
+    let kept_in : l.kept.0 ≤ most = omega (arith, l.invariant.kept_most, l.auto.i) in
+    let stored_in : l.stored.0 ≤ most = omega (arith, l.invariant.stored_most, l.auto.i) in
     let is = ap₂ (λ (o : Open) (x : Record). turned g.rates o x l.kept.0 l.stored.0) c.before_at.ensures c.record_at.ensures in
     record {
-      in_n = search rules;
       same = search rules;
       kept_most = omega (arith, t.ensures.kept_most most kept_in stored_in, some);
       stored_most = omega (arith, t.ensures.stored_most most kept_in stored_in, some);
       done = t.result.hint ∷ l.invariant.done;
-      swept = swept_next l.invariant.swept some l.invariant.in_n t.result (t.ensures.is ∙ is);
+      swept = swept_next l.invariant.swept some l.auto.i t.result (t.ensures.is ∙ is);
       area =
           ap (λ (p : List ℕ). set p (l.i - 1) t.result.hint) l.invariant.area
-          ∙ set_back g.choice.now (l.invariant.done ++ drop g.n g.choice.now) l.i t.result.hint some (omega (arith, l.invariant.in_n, c.requires.in_choice));
+          ∙ set_back g.choice.now (l.invariant.done ++ drop g.n g.choice.now) l.i t.result.hint some (omega (arith, l.auto.i, c.requires.in_choice));
     }

@@ -1,5 +1,5 @@
 -- `sweep::backwards` meets its contract. The invariant: from record i on, the area holds the hints, and `kept` and `stored` are the least costs of
--- what follows the record before it, kept or stored, each at most a fixed sum for a record. The measure is i. Assumes nothing.
+-- what follows the record before it, kept or stored, each at most a fixed sum for a record. Assumes nothing.
 use Prim.Native.Nat.{ℕ, ◌+◌, ◌*◌, ◌≤◌}
 use mathlib.Core.Path.{◌≡◌}
 use mathlib.Core.List.{List, ◌++◌}
@@ -10,7 +10,6 @@ use Rattle.sweep.proofs.Sweeping.{Swept}
 use Rattle.sweep.proofs.backwards.Given as goal
 
 pub record Inv (rates : Rates) (list : List ℕ) (n : ℕ) (choice₀ choice : List ℕ) (i kept stored : ℕ) : Type 0 where
-  pub in_n : i ≤ n
   pub same : length choice ≡ length choice₀
   pub kept_most : kept + step_most * i ≤ step_most * n
   pub stored_most : stored + step_most * i ≤ step_most * n
@@ -20,6 +19,3 @@ pub record Inv (rates : Rates) (list : List ℕ) (n : ℕ) (choice₀ choice : L
 
 abbrev pub invariant-loop-i : goal.invariant-loop-i
 invariant-loop-i l = Inv l.rates l.list l.n l.initial.choice l.choice l.i l.kept.0 l.stored.0
-
-abbrev pub decreases-loop-i : goal.decreases-loop-i
-decreases-loop-i l = l.i

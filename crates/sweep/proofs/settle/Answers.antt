@@ -1,4 +1,4 @@
--- The step of the sweep from the front: the byte at i is settled, and the rest settles to what is to come.
+-- The step of the sweep from the front: the byte at i is settled, and the rest settles to what is to come. Assumes nothing.
 use native.Mathlib.Omega.{arith}
 use mathlib.Core.Path.{◌∙◌}
 use Rattle.sweep.proofs.Sweeping.{forth_turn}
@@ -10,7 +10,6 @@ loop-i-preserved c =
     let g = c.args in
     let l = c.loop-i in
     record {
-      in_n = search rules;
       same = search rules;
       area = l.invariant.area ∙ forth_turn l.choice g.n l.i l.b c.next_bit-b.result (omega arith) (omega arith) c.next_bit-b.ensures;
     }

