@@ -354,7 +354,7 @@ uint32_t commit(uint32_t en, uint32_t em, uint32_t f,
  * Refuses: as partition does.
  * On refusal: answer holds number and place; choice, list_area and block_area are unchanged.
  * Returns: the number.
- * Stack: at most 65,536 bytes, as it holds a record of kinds and sizes; built today, 21,096. */
+ * Stack: at most 65,536 bytes, as it holds a record of kinds and sizes; built today, 21,144. */
 uint32_t pass(uint32_t en, uint32_t em, uint32_t f,
               const uint8_t *list, size_t list_len,
               const uint8_t *version, size_t version_len,

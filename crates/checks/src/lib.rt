@@ -16,7 +16,8 @@ pub fn list_fits(list: &[u8]) -> bool
     list.len() <= format::LIST_MOST && list.len() % 12 == 0
 }
 
-// Whether a row is a record: check 4. In two steps: as one `&&` of all tests, the call check of small records took 1.2 times as long.
+// Whether a row is a record: check 4. In three steps: as one `&&` of all tests the call check of small records took 1.2 times as long, and with the last
+// two tests as one `&&` the call measure up to 1.5 times.
 pub fn well_formed(row: Row) -> bool
     ensures { result ≡ well_formed row }
 {
@@ -24,7 +25,10 @@ pub fn well_formed(row: Row) -> bool
         return false;
     }
     if row.kind == 0 {
-        return row.byte1 == 0 && row.address == 0;
+        if row.byte1 != 0 {
+            return false;
+        }
+        return row.address == 0;
     }
     true
 }

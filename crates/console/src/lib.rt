@@ -1,11 +1,11 @@
-// What the program `partition` reads: the files of the folder where it is run.
+// What the program `partition` reads and writes: the files of the folder where it is run, and its text.
 //
 // A file that is missing, cannot be read or is longer than its buffer is bad, and so is a price not of 6 bytes.
-// The text of a run is made by the crate `program`; only the reading is here.
+// The text of a run is made by the crate `program`; only the reading and writing are here.
 #![tactic(auto)]
 
-ghost use Rattle.std.specs.Prelude.{◌+◌, ◌*◌, ◌≤◌, ◌≡◌, length, take, IfSome};
-ghost use Rattle.std.specs.Io.KnownBytes.{Consumes};
+ghost use Rattle.std.specs.Prelude.{◌+◌, ◌*◌, ◌≤◌, ◌≡◌, length, take, IfSome, OnOk};
+ghost use Rattle.std.specs.Io.KnownBytes.{Appends, Consumes};
 ghost use Rattle.io.specs.Counts.{IsPrefixLen};
 ghost use Rattle.console.specs.Price.{price_in};
 
@@ -71,4 +71,12 @@ pub fn price_in(bytes: &[u8]) -> Option<Price>
         em: number(c, d),
         f: number(e, f),
     })
+}
+
+// Writes out the first n bytes of a text. Through `io::Write`, whose `write_all` says what it appends; that of the prelude's `Print` says nothing.
+pub fn write<W: io::Write>(out: &mut W, text: &[u8], n: usize) -> io::Result<()>
+    requires { n ≤ length text.now }
+    ensures { OnOk result (Appends (W.contents out.old) (W.contents out.new) (take n text.now)) }
+{
+    out.write_all(&text[..n])
 }

@@ -40,12 +40,13 @@ fn put_record(area: &mut [u8], out: usize, record: Record)
     area::put_plain(area, out, &bytes_of(record));
 }
 
-// A list that is being written over a lent area: the area, the place after what is written, and the record that is open.
+// A list that is being written over a lent area: the area, the place after what is written, and the record that is open. A caller may begin at any
+// place and with any record open.
 #[derive(Drop)]
 pub struct Emitter<'a> {
-    area: &'a mut [u8],
-    out: usize,
-    last: Open,
+    pub area: &'a mut [u8],
+    pub out: usize,
+    pub last: Open,
 }
 
 impl<'a> Emitter<'a> {

@@ -6,7 +6,7 @@
 #![tactic(auto)]
 
 ghost use Rattle.std.specs.Prelude.{◌≡◌, ◌+◌, ◌*◌, ◌≤◌, ◌<◌, length, [], ◌∷◌, Ok};
-ghost use Rattle.format.specs.Refusal.{number, need, length_only, entries_only};
+ghost use Rattle.format.specs.Refusal.{number, refuse, need, length_only, entries_only};
 ghost use Rattle.format.specs.Record.{word_at, row_at, record_of};
 ghost use Rattle.format.specs.Meaning.{size_of, stored};
 
@@ -118,6 +118,15 @@ pub enum Record {
     Match(u32, Source),
 }
 
+// A fault at its place. Not inlined, and cold: checks pass far more often than they fail.
+#[cold]
+#[inline(never)]
+fn refusal_at(fault: Fault, place: u32) -> Refusal
+    ensures { result ≡ refuse fault place }
+{
+    Refusal { fault, place }
+}
+
 // A check of a record, or of a chunk: its fault at the place, unless the test holds.
 pub fn need_at(holds: bool, fault: Fault, place: u32) -> Ruling
     ensures { result ≡ need holds fault place }
@@ -125,7 +134,7 @@ pub fn need_at(holds: bool, fault: Fault, place: u32) -> Ruling
     if holds {
         Ok(())
     } else {
-        Err(Refusal { fault, place })
+        Err(refusal_at(fault, place))
     }
 }
 

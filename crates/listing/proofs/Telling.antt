@@ -71,12 +71,17 @@ module _ (price : Price) (st : List ℕ) {list v choice area block : List ℕ} (
       records_handed_on : records_of (take (12 * x.entries) after.list) ≡ list_of (records_of list) c
       records_handed_on = ap records_of front_is ∙ records_encode (list_of (records_of list) c)
 
-  -- the text is made of the list that partition wrote, with the pass's figures y
-  pub text_listed : {r : Answer} {after : Areas} → Partitioned price list v st (areas choice area block) r after
-      → {x y : Figures} → y ≡ pass_figures (rates_of price) (records_of list) → r ≡ Ok x
-      → program_text price list v st ≡ report_text (records_of (take (12 * x.entries) after.list)) x y
-  text_listed d {x} {y} y_is h =
-      ap (λ (z : Figures). text_for (findings price list v st) (rates_of price) (records_of list) z) (sym y_is)
-      ∙ ap (λ (q : Ruling). text_for q (rates_of price) (records_of list) y) (fine_of_answer d h)
-      ∙ sym (ap (λ (l : List Record). report_text l x y) (records_handed_on d h)
-      ∙ ap (λ (z : Figures). report_text (list_of (records_of list) (least_of price list)) z y) (figures_of_answer d h))
+  module _ {r : Answer} {after : Areas} (d : Partitioned price list v st (areas choice area block) r after) {x : Figures} where
+    -- the text is made of the list that partition wrote, whatever figures y stand for the pass
+    pub text_listed : (y : Figures) → r ≡ Ok x
+        → text_for (findings price list v st) (rates_of price) (records_of list) y ≡ report_text (records_of (take (12 * x.entries) after.list)) x y
+    text_listed y h =
+        ap (λ (q : Ruling). text_for q (rates_of price) (records_of list) y) (fine_of_answer d h)
+        ∙ sym (ap (λ (l : List Record). report_text l x y) (records_handed_on d h)
+        ∙ ap (λ (z : Figures). report_text (list_of (records_of list) (least_of price list)) z y) (figures_of_answer d h))
+
+    -- and the program's with the pass's figures
+    pub program_text_listed : {y : Figures} → y ≡ pass_figures (rates_of price) (records_of list) → r ≡ Ok x
+        → program_text price list v st ≡ report_text (records_of (take (12 * x.entries) after.list)) x y
+    program_text_listed {y} y_is h =
+        ap (λ (z : Figures). text_for (findings price list v st) (rates_of price) (records_of list) z) (sym y_is) ∙ text_listed y h

@@ -3,7 +3,7 @@
 #![tactic(auto)]
 
 use report::Text;
-use std::io::{self, Write};
+use std::io;
 
 fn main(rt: HostRuntime) -> io::Result<()> {
     let mut price = [0; 65536];
@@ -20,5 +20,6 @@ fn main(rt: HostRuntime) -> io::Result<()> {
         console::read_file(&rt, b"store", &mut store),
         &mut text,
     );
-    rt.stdout().write_all(text.bytes())
+    let written = text.bytes();
+    console::write(&mut rt.stdout(), written, written.len())
 }

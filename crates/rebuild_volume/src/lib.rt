@@ -55,13 +55,13 @@ fn accept_chunks(index: &[u8], lists: &[u8], blocks: &[u8]) -> Answer
         let row = volume::index_row_at(index, i);
         let to = l + row.list as usize;
         let end = b + row.block as usize;
-        // No `map_err`: tried, the proof did not close, as what its closure promises is no equation that an answer can name.
-        let t = match show::read(&lists[l..to], &blocks[b..end], &[], Scope::Chunk(at)) {
-            Ok(totals) => totals,
-            Err(refusal) => return Err(Refusal {
+        let w = show::read(&lists[l..to], &blocks[b..end], &[], Scope::Chunk(at));
+        let Ok(t) = w else {
+            let refusal = w.unwrap_err();
+            return Err(Refusal {
                 place: i as u32,
                 ..refusal
-            }),
+            });
         };
         at += t.whole;
         l = to;

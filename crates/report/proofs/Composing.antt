@@ -61,13 +61,13 @@ pub record Listed (list : List ℕ) (start text : Text) (n i : ℕ) : Type 0 whe
   pub so_far : Wrote start done text
   pub still_to_come : records_text (records_of list) ≡ done ++ records_text (records_from list n i)
 
-module _ {list : List ℕ} {start text : Text} {n i : ℕ} (room : HasRoom start (records_text (records_of list))) (l : Listed list start text n i) where
+module _ {list : List ℕ} {start text : Text} {n i : ℕ} (l : Listed list start text n i) where
   -- the line of the next record
   to_come_next : i < n → records_text (records_from list n i) ≡ record_text (record_of (row_at list i)) ++ records_text (records_from list n (i + 1))
   to_come_next h = ap records_text (records_from_next list n i h)
 
-  pub room_next : i < n → HasRoom text (record_text (record_of (row_at list i)))
-  room_next h =
+  pub room_next : HasRoom start (records_text (records_of list)) → i < n → HasRoom text (record_text (record_of (row_at list i)))
+  room_next room h =
       let line : List ℕ = record_text (record_of (row_at list i)) in
       let rest : List ℕ = records_text (records_from list n (i + 1)) in
       let all : records_text (records_of list) ≡ l.done ++ (line ++ rest) = l.still_to_come ∙ ap (λ (s : List ℕ). l.done ++ s) (to_come_next h) in
@@ -75,11 +75,11 @@ module _ {list : List ℕ} {start text : Text} {n i : ℕ} (room : HasRoom start
       let same : length text.area.now ≡ length start.area.now = area_kept (record { behind = omega (arith, room.behind) }) l.so_far in
       record { behind = omega (arith, room.behind, l.so_far.written.place) }
 
-  pub listed_next : {after : Text} → i < n → Wrote text (record_text (record_of (row_at list i))) after → Listed list start after n (i + 1)
-  listed_next h w =
+  pub listed_next : start.len ≤ length start.area.now → {after : Text} → i < n → Wrote text (record_text (record_of (row_at list i))) after → Listed list start after n (i + 1)
+  listed_next within h w =
       record {
         done = l.done ++ record_text (record_of (row_at list i));
-        so_far = wrote_append (omega (arith, room.behind)) l.so_far w;
+        so_far = wrote_append within l.so_far w;
         still_to_come =
             l.still_to_come ∙ ap (λ (s : List ℕ). l.done ++ s) (to_come_next h)
             ∙ sym (append_assoc l.done (record_text (record_of (row_at list i))) (records_text (records_from list n (i + 1))));

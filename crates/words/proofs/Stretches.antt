@@ -42,24 +42,24 @@ module _ (a b : List ℕ) (i n : ℕ) (u : Bool) (f : TellsFrom u i n a b) where
 pub both_tell : (a b : List ℕ) (i m n : ℕ) (t u : Bool) → TellsFrom t i m a b → TellsFrom u (i + m) n a b → TellsFrom (t && u) i (m + n) a b
 both_tell a b i m n t u e f = next_tells (drop i a) (drop i b) m n u (rw (drop-drop m i a, drop-drop m i b) f) t e
 
--- t tells of the elements before q, or of as many as the first list has, and u of the one at q, or at the first list's last place
-pub step_tells : (a b : List ℕ) (q : ℕ) (t u : Bool) → 1 ≤ length a
-    → TellsFirst t (min q (length a)) a b → TellsFrom u (min q (length a - 1)) 1 a b → TellsFirst (t && u) (min (q + 1) (length a)) a b
-step_tells a b q t u some = go (ltb q (length a)) refl
+-- in pieces of n: t tells of the elements before q, or of as many as the first list has, and u of the piece at q, or of the first list's last
+pub step_tells : (a b : List ℕ) (n q : ℕ) (t u : Bool) → n ≤ length a → (q < length a → q + n ≤ length a)
+    → TellsFirst t (min q (length a)) a b → TellsFrom u (min q (length a - n)) n a b → TellsFirst (t && u) (min (q + n) (length a)) a b
+step_tells a b n q t u some whole = go (ltb q (length a)) refl
   where
-    go : (d : Bool) → ltb q (length a) ≡ d → TellsFirst t (min q (length a)) a b → TellsFrom u (min q (length a - 1)) 1 a b → TellsFirst (t && u) (min (q + 1) (length a)) a b
+    go : (d : Bool) → ltb q (length a) ≡ d → TellsFirst t (min q (length a)) a b → TellsFrom u (min q (length a - n)) n a b → TellsFirst (t && u) (min (q + n) (length a)) a b
     go true d e f =
-        let l : q < length a = ltb-true _ _ d in
+        let l : q + n ≤ length a = whole (ltb-true _ _ d) in
         let x : min q (length a) ≡ q = omega arith in
-        let y : min q (length a - 1) ≡ q = omega arith in
-        let z : min (q + 1) (length a) ≡ q + 1 = omega arith in
-        rw z (next_tells a b q 1 u (rw y at f) t (rw x at e))
+        let y : min q (length a - n) ≡ q = omega arith in
+        let z : min (q + n) (length a) ≡ q + n = omega arith in
+        rw z (next_tells a b q n u (rw y at f) t (rw x at e))
     go false d e f =
         let l : length a ≤ q = ltb-false _ _ d in
-        let x : min q (length a) ≡ (length a - 1) + 1 = omega arith in
-        let y : min q (length a - 1) ≡ length a - 1 = omega arith in
-        let z : min (q + 1) (length a) ≡ (length a - 1) + 1 = omega arith in
-        rw z (again_tells a b (length a - 1) 1 u (rw y at f) t (rw x at e))
+        let x : min q (length a) ≡ (length a - n) + n = omega arith in
+        let y : min q (length a - n) ≡ length a - n = omega arith in
+        let z : min (q + n) (length a) ≡ (length a - n) + n = omega arith in
+        rw z (again_tells a b (length a - n) n u (rw y at f) t (rw x at e))
 
 -- lists of one length: t tells of the first i and u of the last n, and these are all
 pub ends_tell : (a b : List ℕ) (i last n : ℕ) (t u : Bool) → length a ≡ length b → last + n ≡ length a → last ≤ i

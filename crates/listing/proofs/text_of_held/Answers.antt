@@ -8,7 +8,7 @@ use Rattle.call_partition.specs.Partition.{Partitioned}
 use Rattle.call_partition.proofs.Meeting.{partitioned}
 use Rattle.call_pass.proofs.Meeting.{pass_made}
 use Rattle.call_pass.specs.Pass.{PassMade}
-use Rattle.listing.proofs.Telling.{Roomy, stop_of_answer, figures_of_answer, list_in_area, few_lines, text_listed}
+use Rattle.listing.proofs.Telling.{Roomy, stop_of_answer, figures_of_answer, list_in_area, few_lines, program_text_listed}
 use Rattle.listing.proofs.text_of_held.Goals as goal
 use Rattle.listing.proofs.text_of_held.Goals.{After-pass-passed, After-partition-answer}
 
@@ -61,4 +61,4 @@ returns-in-Ok-answer c =
     let b = (goal.at.returns-in-Ok-answer c).After-pass-passed in
     let d = (goal.at.returns-in-Ok-answer c).After-partition-answer in
     let y_is = figures_of_answer g.price g.store.now (roomy b) (passed b).decided c.in-Ok.is in
-    rw (text_listed g.price g.store.now (roomy_still d) (made d) y_is c.in-Ok-answer.is) c.report.ensures
+    rw (program_text_listed g.price g.store.now (roomy_still d) (made d) y_is c.in-Ok-answer.is) c.report.ensures

@@ -11,10 +11,10 @@ use Rattle.volume.proofs.Cutting.{cut_lists, cut_blocks}
 use Rattle.rebuild_volume.specs.RebuildVolume.{chunk_ruling}
 use Rattle.rebuild_volume.proofs.Passing.{passed_stop, passed_most, passed_next}
 use Rattle.rebuild_volume.proofs.accept_chunks.Goals as goal
-use Rattle.rebuild_volume.proofs.accept_chunks.Goals.{After-read}
+use Rattle.rebuild_volume.proofs.accept_chunks.Goals.{After-read-w}
 
 -- the chunk that is read
-abbrev here : After-read → Chunk
+abbrev here : After-read-w → Chunk
 here c =
     let l = c.loop-i in
     let r = c.index_row_at-row.result in
@@ -29,27 +29,27 @@ slice_bounds-read-end-in-loop-i c = omega (arith, cut_blocks c.loop-i.invariant.
 long : (a b : ℕ) → a + b - a ≡ b
 long a b = omega arith
 
-pub returns-in-Err : goal.returns-in-Err
-returns-in-Err c =
-    let p = (goal.at.returns-in-Err c).After-read in
+pub returns-in_default : goal.returns-in_default
+returns-in_default c =
+    let p = (goal.at.returns-in_default c).After-read-w in
     let l = c.loop-i in
     let r = c.index_row_at-row in
-    let stop = stop_of_stopped (chunk_ruling l.at (here p)) (records_of (here p).list) c.in-Err.refusal (sym c.read.ensures ∙ c.in-Err.is) in
+    let stop = stop_of_stopped (chunk_ruling l.at (here p)) (records_of (here p).list) c.unwrap_err-refusal.result (sym c.read-w.ensures ∙ c.unwrap_err-refusal.ensures) in
     rw (passed_stop l.invariant r.ensures c.loop-i-test.true (long l.l r.result.list) (long l.b r.result.block) stop)
 
 pub overflow_add-at : goal.overflow_add-at
 overflow_add-at c =
-    let p = (goal.at.overflow_add-at c).After-read in
+    let p = (goal.at.overflow_add-at c).After-read-w in
     let l = c.loop-i in
     let r = c.index_row_at-row in
-    let through = fine_of_through (chunk_ruling l.at (here p)) (records_of (here p).list) c.in-Ok.totals (sym c.read.ensures ∙ c.in-Ok.is) in
+    let through = fine_of_through (chunk_ruling l.at (here p)) (records_of (here p).list) c.in-Ok.t (sym c.read-w.ensures ∙ c.in-Ok.is) in
     let most = passed_most l.invariant r.ensures c.loop-i-test.true (long l.l r.result.list) (long l.b r.result.block) through.0 in
     omega (arith, most, ap (λ (t : Totals). t.whole) through.1)
 
 pub loop-i-preserved : goal.loop-i-preserved
 loop-i-preserved c =
-    let p = (goal.at.loop-i-preserved c).After-read in
+    let p = (goal.at.loop-i-preserved c).After-read-w in
     let l = c.loop-i in
     let r = c.index_row_at-row in
-    let through = fine_of_through (chunk_ruling l.at (here p)) (records_of (here p).list) c.in-Ok.totals (sym c.read.ensures ∙ c.in-Ok.is) in
+    let through = fine_of_through (chunk_ruling l.at (here p)) (records_of (here p).list) c.in-Ok.t (sym c.read-w.ensures ∙ c.in-Ok.is) in
     passed_next l.invariant r.ensures c.loop-i-test.true (long l.l r.result.list) (long l.b r.result.block) through.0 (omega arith) (omega arith) (ap (λ (t : Totals). l.at + t.whole) through.1)

@@ -1,6 +1,5 @@
 -- `tidy_twice::tidy_twice` meets its contract: as many records as the first call says are handed on of what it wrote; each call's contract is the call's own, and
 -- that both give the same follows from them. Assumes nothing.
-use Prim.Native.Nat.{◌*◌}
 use native.Mathlib.Omega.{arith}
 use mathlib.Core.Path.{refl, sym}
 use lib.Seq.{length-take-le}
@@ -20,7 +19,7 @@ slice_bounds-tidy-end c = omega (arith, list_there (made (goal.at.slice_bounds-t
 pub slice_bounds-tidy-end-2 : goal.slice_bounds-tidy-end-2
 slice_bounds-tidy-end-2 c =
     let there = list_there (made (goal.at.slice_bounds-tidy-end-2 c).After-tidy-once) c.in-Ok.is in
-    sym (length-take-le (12 * c.in-Ok.figures.entries) c.tidy-once.new.list_area (omega (arith, there)))
+    sym (length-take-le _ c.tidy-once.new.list_area (omega (arith, there)))
 
 pub returns : goal.returns
 returns c =

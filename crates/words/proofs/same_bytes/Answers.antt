@@ -13,4 +13,4 @@ loop-k-preserved c =
     let l = c.loop-k in
     let some : 1 ≤ length g.a.now = grind (arith, nat_tests) in
     let place : c.min.result ≡ min l.k (length g.a.now - 1) = omega arith in
-    step_tells g.a.now g.b.now l.k l.all c.same_byte-all.result some l.invariant (rw place at c.same_byte-all.ensures)
+    step_tells g.a.now g.b.now 1 l.k l.all c.same_byte-all.result some (λ h. omega arith) l.invariant (rw place at c.same_byte-all.ensures)
